@@ -1,0 +1,3 @@
+pub mod Elem
+pub mod Wrap
+pub mod Name
