@@ -1,0 +1,18 @@
+use Rattle.std.proofs.Common.{sym, ◌∙◌, subst, IsTrue, arith}
+use Rattle.venice_run.proofs.Words.{is_read, not_refused, not_plain}
+use Rattle.venice_run.proofs.command.plain_number.Goals as goal
+
+pub returns-in_default : goal.returns-in_default
+returns-in_default c = λ n low high is.
+    let m = is_read c.args.text.now c.args.most n c.in-Ok.number c.parse.result (omega arith) high is c.parse.ensures.value.0 c.in-Ok.is in
+    not_plain c.args.text.now c.in-Ok.number n c.is_plain.result m is c.if-is_plain.false c.is_plain.ensures.1
+
+pub returns-in_default-2 : goal.returns-in_default-2
+returns-in_default-2 c = λ n low high is. omega (arith, is_read c.args.text.now c.args.most n c.in-Ok.number c.parse.result (omega arith) high is c.parse.ensures.value.0 c.in-Ok.is)
+
+pub returns-in_default-3 : goal.returns-in_default-3
+returns-in_default-3 c = λ n low high is. omega (arith, is_read c.args.text.now c.args.most n c.in-Ok.number c.parse.result (omega arith) high is c.parse.ensures.value.0 c.in-Ok.is)
+
+pub returns-in_default-4 : goal.returns-in_default-4
+returns-in_default-4 c = λ n low high is.
+    not_refused c.args.text.now c.args.most n c.in_default.field-0 c.parse.result (omega arith) high is c.parse.ensures.value.0 c.in_default.is
