@@ -1,3 +1,12 @@
 pub mod Elem
 pub mod Wrap
 pub mod Name
+pub mod Stored
+pub mod Operation
+pub mod Extent
+pub mod Place
+pub mod Mapping
+pub mod Grid
+pub mod Folding
+pub mod Pairs
+pub mod Laws

@@ -1,4 +1,5 @@
-ghost use Rattle.std.specs.Prelude.{◌≡◌};
+//! The element types.
+ghost use Rattle.std.specs.Prelude.{◌≡◌, ◌↔◌, ◌+ℤ◌, pos, IsTrue};
 
 /// The type of an array's elements: unsigned or signed whole numbers of 8, 16 or 32 bits.
 #[derive(Clone, Copy, Debug, PartialEq, Eq, Hash)]
@@ -12,7 +13,7 @@ pub enum Elem {
 }
 
 impl Elem {
-    ghost use Rattle.ven_base.specs.Elem.{size_of};
+    ghost use Rattle.ven_base.specs.Elem.{size_of, width_of, modulus_of, least_of, IsElement};
 
     /// The size of an element in bytes.
     pub fn size(self) -> u32
@@ -23,5 +24,56 @@ impl Elem {
             Elem::U16 | Elem::I16 => 2,
             Elem::U32 | Elem::I32 => 4,
         }
+    }
+
+    /// The width of an element in bits.
+    pub fn width(self) -> u32
+        ensures { result ≡ width_of self }
+    {
+        8 * self.size()
+    }
+
+    /// How many numbers the type has: 2 to its width.
+    pub fn modulus(self) -> i64
+        ensures { result ≡ pos (modulus_of self) }
+    {
+        match self {
+            Elem::U8 | Elem::I8 => 0x100,
+            Elem::U16 | Elem::I16 => 0x1_0000,
+            Elem::U32 | Elem::I32 => 0x1_0000_0000,
+        }
+    }
+
+    /// The least number of the type.
+    pub fn least(self) -> i64
+        ensures { result ≡ least_of self }
+    {
+        match self {
+            Elem::U8 | Elem::U16 | Elem::U32 => 0,
+            Elem::I8 => -0x80,
+            Elem::I16 => -0x8000,
+            Elem::I32 => -0x8000_0000,
+        }
+    }
+
+    /// One more than the greatest number of the type.
+    pub fn end(self) -> i64
+        ensures { result ≡ least_of self +ℤ pos (modulus_of self) }
+    {
+        match self {
+            Elem::U8 => 0x100,
+            Elem::I8 => 0x80,
+            Elem::U16 => 0x1_0000,
+            Elem::I16 => 0x8000,
+            Elem::U32 => 0x1_0000_0000,
+            Elem::I32 => 0x8000_0000,
+        }
+    }
+
+    /// Whether `n` is a number of the type.
+    pub fn contains(self, n: i64) -> bool
+        ensures { IsTrue result ↔ IsElement self n }
+    {
+        self.least() <= n && n < self.end()
     }
 }

@@ -1,6 +1,34 @@
-//! The types that all of Ritxundel speaks of: element types, names, and arithmetic that wraps.
+//! The types and definitions that all of Ritxundel speaks of.
+//!
+//! Element types and `wrap`, which brings a whole number into a type's range; the operations, `apply1` and `apply2`, each
+//! the operation on whole numbers and then `wrap`; shapes, index maps and their sources, one index at a time; names, arrays
+//! and lists of named arrays. `specs/` has the definitions, and `laws` what holds of them for every number, list and index.
 #![tactic(auto)]
 
+mod apply;
+mod array;
+mod arrays;
 mod elem;
+mod entry;
+mod laws;
+mod mapping;
+mod name;
+mod ops;
+mod shape;
+#[cfg(test)]
+mod tests;
+mod wrapping;
 
+pub use apply::{apply1, apply2};
+pub use array::Array;
+pub use arrays::Arrays;
 pub use elem::Elem;
+pub use entry::Entry;
+pub use laws::{mapping_laws, reduction_laws, wrapping_laws};
+pub use mapping::Mapping;
+pub use name::{
+    NAME_LIMIT, Name, is_digit, is_name_byte, is_name_start, is_name_token, is_reserved,
+};
+pub use ops::{Fold, Op1, Op2};
+pub use shape::{ELEMENT_LIMIT, Shape};
+pub use wrapping::wrap;

@@ -1,1 +1,10 @@
 pub mod Words
+pub mod Texts
+pub mod SameItems
+pub mod GivenValues
+pub mod Lexing
+pub mod PutLines
+pub mod Denoting
+pub mod ReadTexts
+pub mod Stages
+pub mod Endings

@@ -1,5 +1,5 @@
 -- Plain decimals, and the words of a command.
-use Rattle.std.proofs.Common.{◌≡◌, ℕ, ◌^◌, ◌<◌, ◌≤◌, List, [], ◌∷◌, map, length, get_or, Result, Ok, Err, Bool, true, false, IsTrue, refl, sym, ap, ◌∙◌, arith}
+use Rattle.std.proofs.Common.{◌≡◌, ℕ, ◌^◌, ◌<◌, ◌≤◌, List, [], ◌∷◌, length, get_or, Result, Ok, Err, Bool, true, false, IsTrue, refl, sym, ap, ◌∙◌, arith}
 use Rattle.std.specs.Prelude.{codes, decimal, String}
 use Rattle.std.specs.String.{string_bytes}
 use Rattle.std.specs.Str.Parse.{ParsesUnsigned}
@@ -8,7 +8,7 @@ use Rattle.std.proofs.lemmas.Fmt.{parse-decimal}
 use Rattle.std.proofs.lemmas.List.{get_or-map}
 use Rattle.venice_run.specs.declared.command.Command.{Command}
 use Rattle.venice_run.specs.declared.command.Command.TheVariants.{Run}
-use Rattle.venice_run.specs.Words.{texts_of, IsLaneCount, IsScratchpadSize, SpellsRun, Spells}
+use Rattle.venice_run.specs.Words.{texts_of, SpellsRun, Spells}
 
 read : {E : Type 0} (text : List ℕ) (most n : ℕ) (r : Result ℕ E) → most < 2 ^ 32 → n ≤ most → text ≡ decimal n → ParsesUnsigned 32 10 text r → r ≡ Ok n
 read text most n r small le is parsed = parse-decimal 32 n text r (omega arith) (omega arith) is parsed

@@ -1,1 +1,11 @@
 pub mod Words
+pub mod Refusal
+pub mod Addition
+pub mod Output
+pub mod Request
+pub mod Reply
+pub mod Items
+pub mod Additions
+pub mod Lines
+pub mod Outcome
+pub mod Ending

@@ -1,4 +1,4 @@
-use Rattle.std.proofs.Common.{sym, ◌∙◌, subst, IsTrue, arith}
+use Rattle.std.proofs.Common.{arith}
 use Rattle.venice_run.proofs.Words.{is_read, not_refused, not_plain}
 use Rattle.venice_run.proofs.command.plain_number.Goals as goal
 

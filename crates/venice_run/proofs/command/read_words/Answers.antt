@@ -1,4 +1,4 @@
-use Rattle.std.proofs.Common.{◌≡◌, ◌∙◌, sym, rules, arith}
+use Rattle.std.proofs.Common.{◌≡◌, ◌∙◌, sym, rules}
 use Rattle.std.specs.Prelude.{codes}
 use Rattle.venice_run.proofs.Words.{no_lanes, no_spad, spells_run}
 use Rattle.venice_run.proofs.command.read_words.Goals as goal

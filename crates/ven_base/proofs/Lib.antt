@@ -1,0 +1,7 @@
+pub mod Congruence
+pub mod Wrapped
+pub mod Words
+pub mod NamedArrays
+pub mod Reductions
+pub mod Sources
+pub mod Places

@@ -1,0 +1,11 @@
+use Rattle.ven_base.proofs.Reductions.{wrapped_total-append, IsFolded-folded, IsFolded-unique, IsFolded-append, IsElement-IsFolded}
+use Rattle.ven_base.proofs.laws.reduction_laws.Goals as goal
+
+pub returns : goal.returns
+returns c = record {
+  cuts_sums = wrapped_total-append;
+  reaches_bounds = IsFolded-folded;
+  has_one = IsFolded-unique;
+  joins = IsFolded-append;
+  in_type = IsElement-IsFolded;
+}

@@ -1,0 +1,30 @@
+-- Places of a row or a column, counted from 0.
+use Rattle.std.specs.Prelude.{◌+◌, ◌-◌, ◌*◌, ◌≤◌, ◌<◌, ℕ, ℤ, pos, negsuc, unsigned_abs, nat_lt, if◌then◌else◌, Option, None, Some, ◌≤ℤ◌, neg_ℤ}
+use Rattle.std.specs.Int.{int_rem_euclid}
+use Rattle.ven_base.specs.Extent.{Extent, elements_of, element_limit}
+
+-- this place, where it is one of the n places from 0 on
+abbrev pub place_in : ℕ → ℤ → Option ℕ
+place_in n (pos k) = if nat_lt k n then Some k else None
+place_in n (negsuc k) = None
+
+-- the place, going round the n places
+abbrev pub place_round : ℕ → ℤ → ℕ
+place_round n k = unsigned_abs (int_rem_euclid k (pos n))
+
+-- how far a shift or a rotation may go, to either side
+pub record IsMove (d : ℤ) : Type 0 where
+  pub least : neg_ℤ (pos 4294967295) ≤ℤ d
+  pub most : d ≤ℤ pos 4294967295
+
+-- count places from the first on in steps of step, the last of them below n
+pub record IsCut (n first count step : ℕ) : Type 0 where
+  pub some : 1 ≤ count
+  pub moves : 1 ≤ step
+  pub inside : first + (count - 1) * step < n
+
+-- how often rows and columns may be repeated
+pub record IsRepeat (kr kc : ℕ) (result : Extent) : Type 0 where
+  pub some_rows : 1 ≤ kr
+  pub some_cols : 1 ≤ kc
+  pub within : elements_of result ≤ element_limit

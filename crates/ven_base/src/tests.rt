@@ -1,0 +1,3 @@
+mod mappings;
+mod numbers;
+mod values;

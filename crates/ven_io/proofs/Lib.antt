@@ -1,0 +1,11 @@
+pub mod Digits
+pub mod FaultLemmas
+pub mod FilesLemmas
+pub mod Lexed
+pub mod MemLemmas
+pub mod PieceLemmas
+pub mod Places
+pub mod Settled
+pub mod SinkLemmas
+pub mod Spellings
+pub mod Standing

@@ -1,0 +1,13 @@
+pub mod Faults
+pub mod Files
+pub mod Host
+pub mod Lexemes
+pub mod MemFiles
+pub mod MemSink
+pub mod Number
+pub mod Numbers
+pub mod Pieces
+pub mod Runs
+pub mod Signs
+pub mod Sink
+pub mod Token

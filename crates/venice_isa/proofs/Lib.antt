@@ -1,0 +1,10 @@
+pub mod Regions
+pub mod Wholes
+pub mod Overwrites
+pub mod Copies
+pub mod Groups
+pub mod Counts
+pub mod Spellings
+pub mod Results
+pub mod Beats
+pub mod Transfers

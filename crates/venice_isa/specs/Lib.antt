@@ -1,0 +1,12 @@
+pub mod Mode
+pub mod Parts
+pub mod Cell
+pub mod Region
+pub mod Element
+pub mod Answer
+pub mod Footprint
+pub mod Whole
+pub mod Copy
+pub mod Beat
+pub mod Does
+pub mod Laws

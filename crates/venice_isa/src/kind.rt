@@ -1,0 +1,91 @@
+ghost use Rattle.std.specs.Prelude.{◌≡◌, ◌≢◌, IsTrue};
+ghost use Rattle.venice_isa.specs.Mode.{allows_mode};
+ghost use Rattle.venice_isa.specs.declared.op.VecOp.TheVariants.{Cast};
+
+use crate::op::VecOp;
+use ven_base::Elem;
+
+/// What a vector instruction does with its elements: the operation, the type `elem` of its results
+/// and of B, the type `from` of A, whether A or B is a scalar parameter, and whether the results of
+/// a row are added into one element.
+#[derive(Clone, Copy, Debug, PartialEq, Eq, Hash)]
+pub struct VecKind {
+    pub op: VecOp,
+    pub elem: Elem,
+    pub from: Elem,
+    pub a_scalar: bool,
+    pub b_scalar: bool,
+    pub acc: bool,
+    pub ghost mode_allowed: { IsTrue (allows_mode op b_scalar acc) },
+    pub ghost one_type: { op ≢ Cast → from ≡ elem },
+}
+
+impl VecKind {
+    ghost use Rattle.std.specs.Prelude.{◌<◌, ◌≤◌, ◌↔◌, IsSome, IfSome, max};
+    ghost use Rattle.ven_base.specs.Elem.{size_of};
+    ghost use Rattle.venice_isa.specs.Mode.{IsMode};
+    ghost use Rattle.venice_isa.specs.Parts.{HasParts};
+    ghost use Rattle.venice_isa.specs.Beat.{lane_group};
+
+    /// The kind with these parts. None exactly where the operation doesn't allow the mode, or where
+    /// it is no cast and `from` isn't `elem`.
+    pub fn new(
+        op: VecOp,
+        elem: Elem,
+        from: Elem,
+        a_scalar: bool,
+        b_scalar: bool,
+        acc: bool,
+    ) -> Option<VecKind>
+        ensures allowed { IsSome result ↔ IsMode op elem from b_scalar acc }
+        ensures parts { IfSome result (λ kind. HasParts kind op elem from a_scalar b_scalar acc) }
+    {
+        if !op.allows_mode(b_scalar, acc) || (op != VecOp::Cast && from != elem) {
+            return None;
+        }
+        Some(VecKind {
+            op,
+            elem,
+            from,
+            a_scalar,
+            b_scalar,
+            acc,
+        })
+    }
+
+    /// How many elements a beat of so many lanes takes at the most: 4 bytes a lane, by the greater of
+    /// the two sizes of a cast.
+    pub fn group(self, lanes: u32) -> u32
+        requires some_lanes { 0 < lanes }
+        requires few_lanes { lanes ≤ 4 }
+        ensures value { result ≡ lane_group self lanes }
+        ensures some { 0 < result }
+    {
+        4 * lanes / self.elem.size().max(self.from.size())
+    }
+}
+
+#[cfg(test)]
+mod tests {
+    use super::*;
+
+    #[test]
+    fn refuses_modes_that_an_operation_lacks(rt: HostRuntime) {
+        let table = [
+            (VecOp::Add, Elem::U8, Elem::U8, true, true, true),
+            (VecOp::Add, Elem::U8, Elem::I8, false, false, false),
+            (VecOp::Cast, Elem::U8, Elem::I32, false, true, true),
+            (VecOp::Cast, Elem::U8, Elem::I32, true, false, false),
+            (VecOp::Mov, Elem::U8, Elem::U8, true, false, false),
+            (VecOp::Abs, Elem::I8, Elem::I8, true, false, false),
+            (VecOp::Eq, Elem::I8, Elem::I8, true, true, true),
+            (VecOp::Cmov, Elem::U16, Elem::U16, false, false, true),
+            (VecOp::Cmov, Elem::U16, Elem::U16, true, false, false),
+            (VecOp::Cmov, Elem::U16, Elem::U16, false, true, false),
+        ];
+        for (op, elem, from, b_scalar, acc, want) in table {
+            let kind = VecKind::new(op, elem, from, true, b_scalar, acc);
+            assert_eq!(rt; kind.is_some(), want, "{op:?} {b_scalar} {acc}");
+        }
+    }
+}

@@ -1,0 +1,55 @@
+//! The laws of the machine's work, each as a function without arguments whose contract is the law.
+
+ghost use Rattle.venice_isa.specs.Laws.{RowsApartKeepElementsApart, WholeWritesItsFootprint, WholeReadsItsFootprint, WholeIsDetermined, ReadCopiesItsRows, WriteCopiesItsRows, BytesSpellTheirNumber, NumbersHaveOneSpelling, BeatsAreTheWhole, BeatsAreTheCopy};
+
+/// Where no row of elements reaches into the next, every byte is in at most one element.
+pub fn rows_apart_keep_elements_apart()
+    ensures { RowsApartKeepElementsApart }
+{}
+
+/// A vector instruction changes only the cells of its write footprint.
+pub fn whole_writes_its_footprint()
+    ensures { WholeWritesItsFootprint }
+{}
+
+/// What a vector instruction writes depends only on the cells of its read footprint.
+pub fn whole_reads_its_footprint()
+    ensures { WholeReadsItsFootprint }
+{}
+
+/// The cells before a vector instruction determine the cells after it.
+pub fn whole_is_determined()
+    ensures { WholeIsDetermined }
+{}
+
+/// A read copies its bytes of memory to their cells with their flags cleared, and changes no other
+/// cell.
+pub fn read_copies_its_rows()
+    ensures { ReadCopiesItsRows }
+{}
+
+/// A write copies the bytes of its cells to their places in memory, and changes no other byte.
+pub fn write_copies_its_rows()
+    ensures { WriteCopiesItsRows }
+{}
+
+/// The bytes of a number of a type, the lowest first, spell that number.
+pub fn bytes_spell_their_number()
+    ensures { BytesSpellTheirNumber }
+{}
+
+/// A number of a type has one spelling.
+pub fn numbers_have_one_spelling()
+    ensures { NumbersHaveOneSpelling }
+{}
+
+/// Whatever the number of lanes, the beats of a simple vector instruction in range together are its
+/// whole effect.
+pub fn beats_are_the_whole()
+    ensures { BeatsAreTheWhole }
+{}
+
+/// The beats of a transfer in range together are its copy.
+pub fn beats_are_the_copy()
+    ensures { BeatsAreTheCopy }
+{}

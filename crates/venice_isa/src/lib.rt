@@ -1,0 +1,24 @@
+//! The work of the vector machine: vector instructions, transfers and the issues of a list, and
+//! what each of them does to the scratchpad's cells and to memory.
+//!
+//! The definitions in `specs/` are the machine's manual. `Region` says where elements stand,
+//! `Element` how bytes spell numbers, `Answer` what an operation answers, `Footprint` which bytes a
+//! work reads and writes, `Whole` what a vector instruction does as one simultaneous map, `Copy`
+//! what a transfer does, `Beat` how both go beat by beat, and `Does` what a list of issues does, one
+//! after another. The module `laws` has what is proved of them.
+#![tactic(auto)]
+
+mod answer;
+mod issue;
+mod kind;
+pub mod laws;
+mod op;
+mod region;
+mod work;
+
+pub use answer::{result_of, sets_flag};
+pub use issue::Issue;
+pub use kind::VecKind;
+pub use op::VecOp;
+pub use region::Region;
+pub use work::{DmaWork, VecWork};

@@ -1,0 +1,208 @@
+-- From what is meant and how much of it is put to how the call ends.
+use Rattle.std.proofs.Common.{◌≡◌, ◌≢◌, ◌⊎◌, inl, inr, ℕ, ◌<◌, List, [], ◌∷◌, ◌++◌, ◌+◌, ◌-◌, length, get_or, Option, Result, Ok, Err, Vec, refl, sym, ap, subst, ◌∙◌, arith, length-append}
+use Rattle.std.specs.Prelude.{IsErrOf, String, slice_index_or, codes}
+use Rattle.std.specs.String.{string_bytes}
+use Rattle.std.specs.declared.alloc.Global.{Global}
+use Rattle.std.proofs.lemmas.List.{get_or-map, length-map, take_all}
+use Rattle.std.proofs.Math.Seq.{get_or-append_seam}
+use Rattle.ven_io.specs.Faults.{Rose, CountsFaults}
+use Rattle.ven_io.specs.Files.{Held, Shows}
+use Rattle.ven_io.specs.Sink.{Takes}
+use Rattle.venice_run.specs.declared.command.Command.{Command}
+use Rattle.venice_run.specs.declared.command.Command.TheVariants.{Run}
+use Rattle.venice_run.specs.declared.refusal.Refusal.{Refusal}
+use Rattle.venice_run.specs.declared.refusal.Refusal.TheVariants.{Usage, ProgramForm, InputsForm, Scratchpad, File, FileMissing, Memory}
+use Rattle.venice_run.specs.Words.{texts_of, Spells}
+use Rattle.venice_run.specs.Refusal.{status_of, cause_of, line_of, line_end}
+use Rattle.venice_run.specs.Request.{Asks}
+use Rattle.venice_run.specs.Reply.{NotUsed, Refused, Done}
+use Rattle.venice_run.specs.Lines.{IsLineStart}
+use Rattle.venice_run.specs.Outcome.{RunsFor}
+use Rattle.venice_run.specs.Ending.{IsRefusedBy, Answers, Means, Replies, LacksFile, LacksMemory, Puts, PutsWhole, PutsPart, PutsLines, PutsRefusal, TakesReply, TakesPartOfAny, TakesLinesOfAny, Ends}
+
+-- the words of a command are six
+pub six_words : (words : List (String Global)) (command : Command) → Spells (texts_of words) command → length words ≡ 6
+six_words words (Run lanes spad) spells = sym (length-map words string_bytes) ∙ ap length spells.words_are
+
+-- what `run` comes to under the names at their places is the words' answer
+module _ (words : List (String Global)) (held : Option Held) (command : Command) (spells : Spells (texts_of words) command)
+    (a b : String Global) (a_is : a ≡ get_or words 1 a) (b_is : b ≡ get_or words 2 b) where
+  name_at : (name : String Global) (k : ℕ) → name ≡ get_or words k name → k < length words → string_bytes name ≡ slice_index_or (texts_of words) k []
+  name_at name k is lt = ap string_bytes is ∙ sym (get_or-map string_bytes words k name [] lt)
+
+  asks : (r : Result (Vec ℕ Global) Refusal) (runs : RunsFor held command (string_bytes a) (string_bytes b) r) → Asks (texts_of words) held runs.request
+  asks r runs = record {
+    spelled = subst (λ (c : Command). Spells (texts_of words) c) (sym runs.asked) spells;
+    program = subst (λ (n : List ℕ). Shows held n runs.request.program) (name_at a 1 a_is (omega (arith, six_words words command spells))) runs.program_shown;
+    inputs = subst (λ (n : List ℕ). Shows held n runs.request.inputs) (name_at b 2 b_is (omega (arith, six_words words command spells))) runs.inputs_shown;
+  }
+
+  pub answers : (r : Result (Vec ℕ Global) Refusal) → RunsFor held command (string_bytes a) (string_bytes b) r → Answers (texts_of words) held r
+  answers (Ok text) runs = record { request = runs.request; asks = asks (Ok text) runs; passes = runs.comes.0; prints = runs.comes.1 }
+  answers (Err Usage) runs = absurd runs.comes
+  answers (Err File) runs = tt
+  answers (Err Memory) runs = tt
+  answers (Err ProgramForm) runs = record { request = runs.request; asks = asks (Err ProgramForm) runs; first = runs.comes }
+  answers (Err InputsForm) runs = record { request = runs.request; asks = asks (Err InputsForm) runs; first = runs.comes }
+  answers (Err FileMissing) runs = record { request = runs.request; asks = asks (Err FileMissing) runs; first = runs.comes }
+  answers (Err (Scratchpad need have)) runs = record { request = runs.request; asks = asks (Err (Scratchpad need have)) runs; first = runs.comes }
+
+-- only the refusal `file` is that of a load that failed
+no_file : {T : Type 0} (refusal : Refusal) → refusal ≢ File → IsErrOf {T = T} (Err refusal) File → ⊥
+no_file refusal other e = other (inner e)
+  where
+    inner : {T : Type 0} → ◌≡◌ {A = Result T Refusal} (Err refusal) (Err File) → refusal ≡ File
+    inner h = cc
+
+ok_no_file : {T : Type 0} (x : T) → IsErrOf {E = Refusal} (Ok x) File → ⊥
+ok_no_file x e = cc
+
+module _ (words : List (List ℕ)) (held : Option Held) (loads now : ℕ) where
+  pub means_text : (text : Vec ℕ Global) → Answers words held (Ok text) → CountsFaults loads now (IsErrOf {T = Vec ℕ Global} (Ok text) File) → Means words held loads now 0 text.items
+  means_text text done counts =
+      Replies (counts.kept (ok_no_file text)) (Done done.request done.asks done.passes done.prints refl refl)
+
+  refused : (refusal : Refusal) → refusal ≢ File → IsRefusedBy words held refusal → CountsFaults loads now (IsErrOf {T = Vec ℕ Global} (Err refusal) File)
+      → Means words held loads now (status_of refusal) (line_of refusal)
+  refused refusal other by counts = Replies (counts.kept (no_file refusal other)) (Refused by.request refusal by.asks by.first refl refl refl)
+
+  means_line : (refusal : Refusal) → Answers words held (Err refusal) → CountsFaults loads now (IsErrOf {T = Vec ℕ Global} (Err refusal) File)
+      → Means words held loads now (status_of refusal) (line_of refusal)
+  means_line Usage none counts = Replies (counts.kept (no_file Usage (λ e. cc))) (NotUsed none refl refl refl)
+  means_line File any counts = LacksFile (counts.failed refl) refl refl
+  means_line Memory any counts = LacksMemory refl refl
+  means_line ProgramForm by counts = refused ProgramForm (λ e. cc) by counts
+  means_line InputsForm by counts = refused InputsForm (λ e. cc) by counts
+  means_line FileMissing by counts = refused FileMissing (λ e. cc) by counts
+  means_line (Scratchpad need have) by counts = refused (Scratchpad need have) (λ e. cc) by counts
+
+  means_said : (refusal said : Refusal) → (said ≡ refusal) ⊎ (said ≡ Memory) → Answers words held (Err refusal)
+      → CountsFaults loads now (IsErrOf {T = Vec ℕ Global} (Err refusal) File) → Means words held loads now (status_of said) (line_of said)
+  means_said refusal said (inl is) answered counts =
+      subst (λ (r : Refusal). Means words held loads now (status_of r) (line_of r)) (sym is) (means_line refusal answered counts)
+  means_said refusal said (inr is) answered counts = LacksMemory (ap status_of is) (ap line_of is)
+
+module _ (words : List (List ℕ)) (held : Option Held) (loads now : ℕ) (taken taken_now : Option (List ℕ)) (faults faults_now : ℕ) where
+  pub ends_text : (result : ℕ) (text : Vec ℕ Global) → Puts taken taken_now faults faults_now 0 text.items result → Answers words held (Ok text)
+      → CountsFaults loads now (IsErrOf {T = Vec ℕ Global} (Ok text) File) → Ends words held loads now taken taken_now faults faults_now result
+  ends_text result text puts answered counts = record { status = 0; text = text.items; means = means_text words held loads now text answered counts; puts = puts }
+
+  pub ends_refused : (result : ℕ) (refusal : Refusal) → PutsRefusal taken taken_now faults faults_now refusal result → Answers words held (Err refusal)
+      → CountsFaults loads now (IsErrOf {T = Vec ℕ Global} (Err refusal) File) → Ends words held loads now taken taken_now faults faults_now result
+  ends_refused result refusal puts answered counts = record {
+    status = status_of puts.said;
+    text = line_of puts.said;
+    means = means_said words held loads now refusal puts.said puts.is answered counts;
+    puts = puts.puts;
+  }
+
+  -- at a status: a whole reply, or one of the faults
+  whole : (result status : ℕ) (text : List ℕ) → result ≡ status → Means words held loads now status text → Takes taken taken_now text
+      → TakesReply words held held taken taken_now result ⊎ ((Rose loads now × (result ≡ 8) × Takes taken taken_now (line_of File)) ⊎ (result ≡ 10))
+  whole result status text is (Replies kept reply) takes =
+      inl (subst (λ (n : ℕ). TakesReply words held held taken taken_now n) (sym is) (record { text = text; reply = reply; whole = takes }))
+  whole result status text is (LacksFile rose s t) takes = inr (inl (rose, is ∙ s, subst (Takes taken taken_now) t takes))
+  whole result status text is (LacksMemory s t) takes = inr (inr (is ∙ s))
+
+  pub replies : (result : ℕ) → Ends words held loads now taken taken_now faults faults_now result → ¬ Rose loads now → ¬ Rose faults faults_now → result ≢ 10
+      → TakesReply words held held taken taken_now result
+  replies result ends no_load no_put other = by (ends.puts)
+    where
+      by : Puts taken taken_now faults faults_now ends.status ends.text result → TakesReply words held held taken taken_now result
+      by (PutsWhole is takes kept) = elim (whole result ends.status ends.text is ends.means takes) [ inl reply ↦ reply | inr fault ↦ elim fault [ inl file ↦ absurd (no_load file.0) | inr memory ↦ absurd (other memory) ] ]
+      by (PutsPart is part rose) = absurd (no_put rose)
+      by (PutsLines is lines kept) = absurd (other is)
+
+  pub quiet : (result : ℕ) → Ends words held loads now taken taken_now faults faults_now result → result ≢ 8 → result ≢ 9 → result ≢ 10
+      → (now ≡ loads) × (faults_now ≡ faults)
+  quiet result ends no_file no_put no_memory = by ends.puts ends.means
+    where
+      by : Puts taken taken_now faults faults_now ends.status ends.text result → Means words held loads now ends.status ends.text → (now ≡ loads) × (faults_now ≡ faults)
+      by (PutsWhole is takes kept) (Replies still reply) = (still, kept)
+      by (PutsWhole is takes kept) (LacksFile rose s t) = absurd (no_file (is ∙ s))
+      by (PutsWhole is takes kept) (LacksMemory s t) = absurd (no_memory (is ∙ s))
+      by (PutsPart is part rose) means = absurd (no_put is)
+      by (PutsLines is lines kept) means = absurd (no_memory is)
+
+  pub file : (result : ℕ) → Ends words held loads now taken taken_now faults faults_now result → result ≡ 8
+      → TakesReply words held held taken taken_now 8 ⊎ (Rose loads now × Takes taken taken_now (line_of File))
+  file result ends eight = by ends.puts
+    where
+      by : Puts taken taken_now faults faults_now ends.status ends.text result → TakesReply words held held taken taken_now 8 ⊎ (Rose loads now × Takes taken taken_now (line_of File))
+      by (PutsWhole is takes kept) = elim (whole result ends.status ends.text is ends.means takes) [
+        | inl reply ↦ inl (subst (λ (n : ℕ). TakesReply words held held taken taken_now n) eight reply)
+        | inr fault ↦ elim fault [ inl f ↦ inr (f.0, f.2) | inr memory ↦ absurd (omega arith) ]
+      ]
+      by (PutsPart is part rose) = absurd (omega arith)
+      by (PutsLines is lines kept) = absurd (omega arith)
+
+  means_nine : (status : ℕ) (text : List ℕ) → Means words held loads now status text → status ≡ 9 → ⊥
+  means_nine status text (Replies still (NotUsed none same s t)) nine = absurd (omega arith)
+  means_nine status text (Replies still (Refused q refusal asks first same s t)) nine = never refusal (sym s ∙ nine)
+    where
+      never : (r : Refusal) → status_of r ≡ 9 → ⊥
+      never Usage e = omega arith
+      never File e = omega arith
+      never Memory e = omega arith
+      never ProgramForm e = omega arith
+      never InputsForm e = omega arith
+      never FileMissing e = omega arith
+      never (Scratchpad need have) e = omega arith
+  means_nine status text (Replies still (Done q asks passes prints same s)) nine = omega arith
+  means_nine status text (LacksFile rose s t) nine = omega arith
+  means_nine status text (LacksMemory s t) nine = omega arith
+
+  pub put : (result : ℕ) → Ends words held loads now taken taken_now faults faults_now result → result ≡ 9
+      → Rose faults faults_now × TakesPartOfAny words held loads now taken taken_now
+  put result ends nine = by ends.puts
+    where
+      by : Puts taken taken_now faults faults_now ends.status ends.text result → Rose faults faults_now × TakesPartOfAny words held loads now taken taken_now
+      by (PutsWhole is takes kept) = absurd (means_nine ends.status ends.text ends.means (sym is ∙ nine))
+      by (PutsPart is part rose) = (rose, record { status = ends.status; text = ends.text; means = ends.means; part = part })
+      by (PutsLines is lines kept) = absurd (omega arith)
+
+  -- a line's end is the start of what may follow it
+  ends_line : (front : List ℕ) → IsLineStart (front ++ line_end ∷ []) (length (front ++ line_end ∷ []))
+  ends_line front = inr (omega (arith, len), ap (λ k. get_or (front ++ line_end ∷ []) k 0) at_end ∙ last)
+    where
+      len : length (front ++ line_end ∷ []) ≡ length front + 1
+      len = length-append front (line_end ∷ [])
+
+      at_end : length (front ++ line_end ∷ []) - 1 ≡ length front
+      at_end = omega (arith, len)
+
+      last : get_or (front ++ line_end ∷ []) (length front) 0 ≡ line_end
+      last = get_or-append_seam front line_end [] 0
+
+  line_ends : (r : Refusal) → IsLineStart (line_of r) (length (line_of r))
+  line_ends r = ends_line (codes "error: " ++ cause_of r)
+
+  -- what is meant at status 10 is a line
+  means_ten : (status : ℕ) (text : List ℕ) → Means words held loads now status text → status ≡ 10 → IsLineStart text (length text)
+  means_ten status text (Replies still (NotUsed none same s t)) ten = absurd (omega arith)
+  means_ten status text (Replies still (Refused q refusal asks first same s t)) ten = subst (λ (l : List ℕ). IsLineStart l (length l)) (sym t) (line_ends refusal)
+  means_ten status text (Replies still (Done q asks passes prints same s)) ten = absurd (omega arith)
+  means_ten status text (LacksFile rose s t) ten = absurd (omega arith)
+  means_ten status text (LacksMemory s t) ten = subst (λ (l : List ℕ). IsLineStart l (length l)) (sym t) (line_ends Memory)
+
+  pub memory : (result : ℕ) → Ends words held loads now taken taken_now faults faults_now result → result ≡ 10
+      → (faults_now ≡ faults) × TakesLinesOfAny words held loads now taken taken_now
+  memory result ends ten = by ends.puts
+    where
+      by : Puts taken taken_now faults faults_now ends.status ends.text result → (faults_now ≡ faults) × TakesLinesOfAny words held loads now taken taken_now
+      by (PutsWhole is takes kept) = (
+        kept,
+        record {
+          status = ends.status;
+          text = ends.text;
+          means = ends.means;
+          lines = record {
+            count = length ends.text;
+            in_text = omega arith;
+            whole = means_ten ends.status ends.text ends.means (sym is ∙ ten);
+            taken = subst (Takes taken taken_now) (sym (take_all (length ends.text) ends.text (omega arith))) takes;
+          };
+        },
+      )
+      by (PutsPart is part rose) = absurd (omega arith)
+      by (PutsLines is lines kept) = (kept, record { status = ends.status; text = ends.text; means = ends.means; lines = lines })

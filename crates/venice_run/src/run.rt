@@ -1,0 +1,152 @@
+//! The stages of `run`, each with its refusals.
+
+ghost use Rattle.std.specs.Prelude.{◌≡◌, ◌<◌, ◌≤◌, IfOk, IsErrOf, MatchResult};
+ghost use Rattle.ven_io.specs.Faults.{CountsFaults};
+ghost use Rattle.venice_run.specs.Output.{one_row_text as text_lem, sums_of};
+ghost use Rattle.venice_run.specs.Additions.{denoted};
+ghost use Rattle.venice_run.specs.Addition.{IsAddition, need_of};
+ghost use Rattle.venice_run.specs.Outcome.{LoadsText, IsProgramText, IsInputsText, ReadsProgram, ReadsInputs, RunsFor};
+ghost use Rattle.venice_run.specs.Request.{spad_of};
+
+use crate::addition::Addition;
+use crate::command::Command;
+use crate::items::items_of;
+use crate::operands::Operands;
+use crate::output::one_row_text;
+use crate::refusal::Refusal;
+use std::alloc::{AllocError, Global};
+use ven_base::{Elem, wrap};
+use ven_io::{Files, LoadFault};
+
+/// The greatest length of a program's text and of an array file, in bytes.
+const TEXT_LIMIT: usize = 65_536;
+
+fn load_text<F: Files>(alloc: Global, files: &mut F, name: &str) -> Result<Vec<u8>, Refusal>
+    ensures loaded { LoadsText (F.held files.old) name.now result }
+    ensures held { F.held files.new ≡ F.held files.old }
+    ensures loads { CountsFaults (F.load_faults files.old) (F.load_faults files.new) (IsErrOf result Refusal.File) }
+    ensures saves { F.save_faults files.new ≡ F.save_faults files.old }
+{
+    match files.load(alloc, name, TEXT_LIMIT as u64) {
+        Ok(text) => Ok(text),
+        Err(LoadFault::Missing) => Err(Refusal::FileMissing),
+        Err(LoadFault::Failed) => Err(Refusal::File),
+        Err(LoadFault::Memory) => Err(Refusal::Memory),
+    }
+}
+
+// The addition whose program the text is. A text above the limit is refused before its bytes are looked at.
+fn program_of(alloc: Global, text: &[u8]) -> Result<Addition, Refusal>
+    ensures { IsProgramText text.now result }
+{
+    if text.len() > TEXT_LIMIT {
+        return Err(Refusal::ProgramForm);
+    }
+    let Some(items) = items_of(alloc, text)? else {
+        return Err(Refusal::ProgramForm);
+    };
+    match Addition::from_items(&items) {
+        Some(addition) => Ok(addition),
+        None => Err(Refusal::ProgramForm),
+    }
+}
+
+// The values that the text gives to the inputs of the addition.
+fn operands_of(alloc: Global, text: &[u8], addition: &Addition) -> Result<Operands, Refusal>
+    requires { IsAddition (denoted addition.now) }
+    ensures { IsInputsText text.now (denoted addition.now) result }
+{
+    if text.len() > TEXT_LIMIT {
+        return Err(Refusal::InputsForm);
+    }
+    let Some(items) = items_of(alloc, text)? else {
+        return Err(Refusal::InputsForm);
+    };
+    match Operands::from_items(alloc, &items, addition)? {
+        Some(operands) => Ok(operands),
+        None => Err(Refusal::InputsForm),
+    }
+}
+
+fn read_program<F: Files>(alloc: Global, files: &mut F, name: &str) -> Result<Addition, Refusal>
+    ensures read { ReadsProgram (F.held files.old) name.now result }
+    ensures held { F.held files.new ≡ F.held files.old }
+    ensures loads { CountsFaults (F.load_faults files.old) (F.load_faults files.new) (IsErrOf result Refusal.File) }
+    ensures saves { F.save_faults files.new ≡ F.save_faults files.old }
+{
+    let text = load_text(alloc, files, name)?;
+    program_of(alloc, &text)
+}
+
+fn read_inputs<F: Files>(
+    alloc: Global,
+    files: &mut F,
+    name: &str,
+    addition: &Addition,
+) -> Result<Operands, Refusal>
+    requires { IsAddition (denoted addition.now) }
+    ensures read { ReadsInputs (F.held files.old) name.now (denoted addition.now) result }
+    ensures held { F.held files.new ≡ F.held files.old }
+    ensures loads { CountsFaults (F.load_faults files.old) (F.load_faults files.new) (IsErrOf result Refusal.File) }
+    ensures saves { F.save_faults files.new ≡ F.save_faults files.old }
+{
+    let text = load_text(alloc, files, name)?;
+    operands_of(alloc, &text, addition)
+}
+
+// The wrapped sums of two arrays of an element type, value by value.
+fn wrapped_sums(
+    alloc: Global,
+    elem: Elem,
+    first: &[u8],
+    second: &[u8],
+) -> Result<Vec<i64>, AllocError>
+    ensures { IfOk result (λ sums. sums.items ≡ sums_of elem first.now second.now) }
+{
+    first
+        .iter()
+        .zip(second.iter())
+        .map(|(x, y)| wrap(elem, i128::from(*x) + i128::from(*y)))
+        .collect(alloc)
+}
+
+// The text of the sums that the addition prints.
+fn sum_text(alloc: Global, addition: &Addition, operands: &Operands) -> Result<Vec<u8>, AllocError>
+    ensures { IfOk result (λ text. text.items ≡
+        text_lem addition.now.sum Elem.U8 (sums_of Elem.U8 operands.now.first.items operands.now.second.items)) }
+{
+    let sums = wrapped_sums(alloc, Elem::U8, &operands.first, &operands.second)?;
+    one_row_text(alloc, addition.sum.bytes(), Elem::U8, &sums)
+}
+
+/// What `run` prints, or its first refusal. Files stay as they are.
+pub(crate) fn run<F: Files>(
+    alloc: Global,
+    command: Command,
+    program: &str,
+    inputs: &str,
+    files: &mut F,
+) -> Result<Vec<u8>, Refusal>
+    ensures outcome { RunsFor (F.held files.old) command program.now inputs.now result }
+    ensures held { F.held files.new ≡ F.held files.old }
+    ensures loads { CountsFaults (F.load_faults files.old) (F.load_faults files.new) (IsErrOf result Refusal.File) }
+    ensures saves { F.save_faults files.new ≡ F.save_faults files.old }
+{
+    let addition = read_program(alloc, files, program)?;
+    check_scratchpad(&addition, command)?;
+    let operands = read_inputs(alloc, files, inputs, &addition)?;
+    Ok(sum_text(alloc, &addition, &operands)?)
+}
+
+fn check_scratchpad(addition: &Addition, command: Command) -> Result<(), Refusal>
+    ensures { MatchResult result (λ _. need_of (denoted addition.now) ≤ spad_of command)
+        (λ refusal. (spad_of command < need_of (denoted addition.now))
+        × (refusal ≡ Refusal.Scratchpad (need_of (denoted addition.now)) (spad_of command))) }
+{
+    let Command::Run { spad, .. } = command;
+    let need = addition.need();
+    if u64::from(spad) < need {
+        return Err(Refusal::Scratchpad { need, have: spad });
+    }
+    Ok(())
+}
