@@ -5,9 +5,10 @@ ghost use Rattle.ven_base.specs.Name.{is_name_start, is_digit};
 ghost use Rattle.ven_io.specs.Token.{IsStop, StandsAt, NoneAt, NextIs};
 ghost use Rattle.ven_io.specs.Runs.{IsHexadecimalAt, IsDoubleSignAt, NoSign};
 
-use crate::runs::{Run, is_digit, is_hex_digit, is_name_start, run_end};
+use crate::runs::{Run, is_hex_digit, run_end};
 use crate::signs::{is_double_sign, is_single_sign};
 use crate::token::{Token, TokenFault, TokenKind};
+use ven_base::{is_digit, is_name_start};
 
 /// The next place to read: past blanks, and past a comment, which goes up to a line end.
 fn stop_from(text: &[u8], from: usize) -> usize

@@ -1,9 +1,10 @@
 //! Runs of bytes of one sort.
 
 ghost use Rattle.std.specs.Prelude.{◌≡◌, ◌≤◌, length};
-ghost use Rattle.ven_base.specs.Name.{is_name_start, is_name_byte, is_digit};
 ghost use Rattle.ven_io.specs.Token.{is_blank, is_hex_digit};
 ghost use Rattle.ven_io.specs.Runs.{is_in_run, IsRun};
+
+use ven_base::{is_digit, is_name_byte};
 
 /// A sort of bytes.
 #[derive(Clone, Copy, Debug, PartialEq, Eq)]
@@ -13,24 +14,6 @@ pub(crate) enum Run {
     NameBytes,
     Digits,
     HexDigits,
-}
-
-pub(crate) fn is_name_start(byte: u8) -> bool
-    ensures { result ≡ is_name_start byte }
-{
-    matches!(byte, b'A'..=b'Z' | b'a'..=b'z' | b'_')
-}
-
-pub(crate) fn is_digit(byte: u8) -> bool
-    ensures { result ≡ is_digit byte }
-{
-    matches!(byte, b'0'..=b'9')
-}
-
-fn is_name_byte(byte: u8) -> bool
-    ensures { result ≡ is_name_byte byte }
-{
-    is_name_start(byte) || is_digit(byte)
 }
 
 pub(crate) fn is_hex_digit(byte: u8) -> bool

@@ -14,3 +14,6 @@ mod top;
 pub use command::{Command, read_words};
 pub use refusal::Refusal;
 pub use top::venice;
+
+#[cfg(test)]
+mod tests;

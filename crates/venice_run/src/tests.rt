@@ -1,0 +1,302 @@
+use crate::{Command, Refusal, read_words, venice};
+use std::alloc::Global;
+use std::test::Fail;
+use ven_io::{Files, MemFiles, MemSink, Sink};
+
+const PROGRAM: &str = "input a u8[1,4];\ninput b u8[1,4];\noutput y = a + b;\n";
+
+const INPUTS: &str = "a u8[1,4]\n1 2 3 250\nb u8[1,4]\n4 5 6 10\n";
+
+const SUMS: &str = "y u8[1,4]\n5 7 9 4\n";
+
+fn owned(alloc: Global, words: &[&str]) -> Result<Vec<String>, Fail> {
+    let mut all = Vec::new(alloc);
+    for word in words {
+        all.push(String::from_str(alloc, word)?)?;
+    }
+    Ok(all)
+}
+
+fn files_with(
+    alloc: Global,
+    program: &str,
+    inputs: &str,
+    fails: Vec<u64>,
+) -> Result<MemFiles, Fail> {
+    let mut files = MemFiles::new(alloc, fails);
+    files.add("P", program.as_bytes().to_vec(alloc)?)?;
+    files.add("I", inputs.as_bytes().to_vec(alloc)?)?;
+    Ok(files)
+}
+
+fn status<F: Files, S: Sink>(
+    alloc: Global,
+    words: &[&str],
+    files: &mut F,
+    out: &mut S,
+) -> Result<u8, Fail> {
+    Ok(venice(alloc, &owned(alloc, words)?, files, out))
+}
+
+// The status and the text of a run over files and a sink that never fail.
+fn reply(
+    alloc: Global,
+    words: &[&str],
+    program: &str,
+    inputs: &str,
+) -> Result<(u8, Vec<u8>), Fail> {
+    let mut files = files_with(alloc, program, inputs, Vec::new(alloc))?;
+    let mut out = MemSink::new(alloc, Vec::new(alloc));
+    let status = status(alloc, words, &mut files, &mut out)?;
+    Ok((status, out.taken().to_vec(alloc)?))
+}
+
+#[test]
+fn sums_are_printed_for_each_number_of_lanes(rt: HostRuntime) -> Result<(), Fail> {
+    let alloc = rt.alloc();
+    for lanes in ["1", "2", "3", "4"] {
+        let (status, text) = reply(alloc, &["run", "P", "I", "M", lanes, "28"], PROGRAM, INPUTS)?;
+        assert_eq!(rt; status, 0);
+        assert_eq!(rt; text.as_slice(), SUMS.as_bytes());
+    }
+    Ok(())
+}
+
+#[test]
+fn other_words_are_usage(rt: HostRuntime) -> Result<(), Fail> {
+    let alloc = rt.alloc();
+    let cases: [&[&str]; 12] = [
+        &[],
+        &["run"],
+        &["run", "a", "b"],
+        &["walk", "P", "I", "M", "4", "28"],
+        &["run", "P", "I", "M", "4", "28", "G"],
+        &["run", "P", "I", "M", "0", "28"],
+        &["run", "P", "I", "M", "5", "28"],
+        &["run", "P", "I", "M", "04", "28"],
+        &["run", "P", "I", "M", "+4", "28"],
+        &["run", "P", "I", "M", "4", "0"],
+        &["run", "P", "I", "M", "4", "028"],
+        &["run", "P", "I", "M", "4", "1048577"],
+    ];
+    for words in cases {
+        assert_eq!(rt; read_words(&owned(alloc, words)?), None);
+        let (status, text) = reply(alloc, words, PROGRAM, INPUTS)?;
+        assert_eq!(rt; status, 2);
+        assert_eq!(rt; text.as_slice(), b"error: usage\n".as_slice());
+    }
+    let words = owned(alloc, &["run", "P", "I", "M", "4", "1048576"])?;
+    assert_eq!(rt;
+        read_words(&words),
+        Some(Command::Run {
+            lanes: 4,
+            spad: 1_048_576
+        })
+    );
+    Ok(())
+}
+
+#[test]
+fn the_first_refusal_is_answered(rt: HostRuntime) -> Result<(), Fail> {
+    let alloc = rt.alloc();
+    let run = ["run", "P", "I", "M", "4", "28"];
+    let cases: [(&[&str], &str, &str, u8, &str); 14] = [
+        (
+            &["run", "P", "I", "M", "4", "27"],
+            PROGRAM,
+            INPUTS,
+            5,
+            "error: scratchpad need 28 have 27\n",
+        ),
+        (
+            &["run", "P", "no", "M", "4", "27"],
+            PROGRAM,
+            INPUTS,
+            5,
+            "error: scratchpad need 28 have 27\n",
+        ),
+        (
+            &run,
+            "input a u8[1,4];\ninput b u8[1,4];\noutput y = a - b;\n",
+            INPUTS,
+            3,
+            "error: program form\n",
+        ),
+        (
+            &["run", "P", "no", "M", "4", "1"],
+            "",
+            INPUTS,
+            3,
+            "error: program form\n",
+        ),
+        (
+            &run,
+            PROGRAM,
+            "a u8[1,4]\n1 2 3 250\nb u8[1,4]\n4 5 6\n",
+            4,
+            "error: inputs form\n",
+        ),
+        (
+            &run,
+            PROGRAM,
+            "a u8[1,4]\n1 2 3 256\nb u8[1,4]\n4 5 6 10\n",
+            4,
+            "error: inputs form\n",
+        ),
+        (
+            &run,
+            PROGRAM,
+            "b u8[1,4]\n1 2 3 250\na u8[1,4]\n4 5 6 10\n",
+            4,
+            "error: inputs form\n",
+        ),
+        (
+            &["run", "no", "I", "M", "4", "28"],
+            PROGRAM,
+            INPUTS,
+            8,
+            "error: file missing\n",
+        ),
+        (
+            &["run", "P", "no", "M", "4", "28"],
+            PROGRAM,
+            INPUTS,
+            8,
+            "error: file missing\n",
+        ),
+        (
+            &run,
+            "input a u8[1,4]; input a u8[1,4]; output y = a + a;",
+            INPUTS,
+            3,
+            "error: program form\n",
+        ),
+        (
+            &run,
+            "input a u8[1,4]; input b u8[1,4]; output sum = a + b;",
+            INPUTS,
+            3,
+            "error: program form\n",
+        ),
+        (
+            &run,
+            "input a u8[1,0]; input b u8[1,0]; output y = a + b;",
+            INPUTS,
+            3,
+            "error: program form\n",
+        ),
+        (
+            &run,
+            "input a u8[1,2049]; input b u8[1,2049]; output y = a + b;",
+            INPUTS,
+            3,
+            "error: program form\n",
+        ),
+        (
+            &run,
+            "# \u{e9}\ninput a u8[1,4]; input b u8[1,4]; output y = a + b;",
+            INPUTS,
+            3,
+            "error: program form\n",
+        ),
+    ];
+    for (words, program, inputs, want, line) in cases {
+        let (status, text) = reply(alloc, words, program, inputs)?;
+        assert_eq!(rt; status, want);
+        assert_eq!(rt; text.as_slice(), line.as_bytes());
+    }
+    Ok(())
+}
+
+#[test]
+fn a_name_has_up_to_31_bytes(rt: HostRuntime) -> Result<(), Fail> {
+    let alloc = rt.alloc();
+    for (len, want) in [(31usize, 0u8), (32, 3)] {
+        let mut program = String::from_str(alloc, "input a u8[1,1]; input b u8[1,1]; output ")?;
+        for _ in 0..len {
+            program.push_str("y")?;
+        }
+        program.push_str(" = a + b;")?;
+        let inputs = "a u8[1,1] 0x10 b u8[1,1] 01";
+        let (status, text) = reply(
+            alloc,
+            &["run", "P", "I", "M", "1", "7"],
+            program.as_str(),
+            inputs,
+        )?;
+        assert_eq!(rt; status, want);
+        assert_eq!(rt; text.ends_with(b"\n17\n"), want == 0);
+    }
+    Ok(())
+}
+
+#[test]
+fn a_program_has_up_to_65536_bytes(rt: HostRuntime) -> Result<(), Fail> {
+    let alloc = rt.alloc();
+    for (len, want) in [(65_536usize, 0u8), (65_537, 3)] {
+        let mut program = String::from_str(alloc, PROGRAM)?;
+        let more = len.saturating_sub(program.len());
+        for _ in 0..more {
+            program.push_str(" ")?;
+        }
+        assert_eq!(rt; program.len(), len);
+        let (status, _) = reply(
+            alloc,
+            &["run", "P", "I", "M", "4", "28"],
+            program.as_str(),
+            INPUTS,
+        )?;
+        assert_eq!(rt; status, want);
+    }
+    Ok(())
+}
+
+#[test]
+fn faults_of_the_outside_have_their_status(rt: HostRuntime) -> Result<(), Fail> {
+    let alloc = rt.alloc();
+    let run = ["run", "P", "I", "M", "4", "28"];
+    // Which load fails, which put fails, the status, and what the sink has taken.
+    let cases: [(u64, u64, u8, &[u8]); 5] = [
+        (0, 0, 0, b"y u8[1,4]\n5 7 9 4\n"),
+        (0, 2, 9, b"y u8[1,4]\n5 7 "),
+        (1, 0, 8, b"error: file\n"),
+        (2, 0, 8, b"error: file\n"),
+        (1, 1, 9, b"error:"),
+    ];
+    for (load, put, want, taken) in cases {
+        let mut files = files_with(alloc, PROGRAM, INPUTS, vec![in alloc; load]?)?;
+        let mut out = MemSink::new(alloc, vec![in alloc; put]?);
+        assert_eq!(rt; status(alloc, &run, &mut files, &mut out)?, want);
+        assert_eq!(rt; out.taken(), taken);
+        assert_eq!(rt; files.get("P"), Some(PROGRAM.as_bytes()));
+        assert_eq!(rt; files.get("I"), Some(INPUTS.as_bytes()));
+        assert_eq!(rt; files.get("M"), None);
+    }
+    Ok(())
+}
+
+#[test]
+fn each_refusal_has_its_status_and_line(rt: HostRuntime) -> Result<(), Fail> {
+    let alloc = rt.alloc();
+    let cases = [
+        (Refusal::Usage, 2, "error: usage\n"),
+        (Refusal::ProgramForm, 3, "error: program form\n"),
+        (Refusal::InputsForm, 4, "error: inputs form\n"),
+        (
+            Refusal::Scratchpad {
+                need: 14_336,
+                have: 0,
+            },
+            5,
+            "error: scratchpad need 14336 have 0\n",
+        ),
+        (Refusal::File, 8, "error: file\n"),
+        (Refusal::FileMissing, 8, "error: file missing\n"),
+        (Refusal::Memory, 10, "error: memory\n"),
+    ];
+    for (refusal, status, line) in cases {
+        assert_eq!(rt; refusal.status(), status);
+        assert_eq!(rt; refusal.line(alloc)?.as_slice(), line.as_bytes());
+    }
+    Ok(())
+}
