@@ -2,9 +2,9 @@
 //! the status that comes back.
 #![tactic(auto)]
 
-use std::alloc::{AllocError, Global};
-use std::env;
+use std::alloc::Global;
 use std::process::ExitCode;
+use std::{env, io};
 use ven_io::{HostFiles, HostSink};
 use venice_run::venice;
 
@@ -22,7 +22,7 @@ fn main(rt: HostRuntime) -> ExitCode {
 }
 
 // The words after the program's name.
-fn words_of(rt: &HostRuntime, alloc: Global) -> std::io::Result<Vec<String>> {
+fn words_of(rt: &HostRuntime, alloc: Global) -> io::Result<Vec<String>> {
     let mut words = Vec::new(alloc);
     for word in env::args(rt)?.skip(1) {
         words.push(word)?;

@@ -13,7 +13,7 @@ use Rattle.venice_run.specs.declared.command.Command.TheVariants.{Run}
 use Rattle.venice_run.specs.declared.refusal.Refusal.{Refusal}
 use Rattle.venice_run.specs.declared.refusal.Refusal.TheVariants.{Usage, ProgramForm, InputsForm, Scratchpad, File, FileMissing, Memory}
 use Rattle.venice_run.specs.Words.{texts_of, Spells}
-use Rattle.venice_run.specs.Refusal.{status_of, cause_of, line_of, line_end}
+use Rattle.venice_run.specs.Refusal.{status_of, line_of}
 use Rattle.venice_run.specs.Request.{Asks}
 use Rattle.venice_run.specs.Reply.{NotUsed, Refused, Done}
 use Rattle.venice_run.specs.Lines.{IsLineStart}
@@ -161,48 +161,28 @@ module _ (words : List (List ℕ)) (held : Option Held) (loads now : ℕ) (taken
       by (PutsPart is part rose) = (rose, record { status = ends.status; text = ends.text; means = ends.means; part = part })
       by (PutsLines is lines kept) = absurd (omega arith)
 
-  -- a line's end is the start of what may follow it
-  ends_line : (front : List ℕ) → IsLineStart (front ++ line_end ∷ []) (length (front ++ line_end ∷ []))
-  ends_line front = inr (omega (arith, len), ap (λ k. get_or (front ++ line_end ∷ []) k 0) at_end ∙ last)
-    where
-      len : length (front ++ line_end ∷ []) ≡ length front + 1
-      len = length-append front (line_end ∷ [])
-
-      at_end : length (front ++ line_end ∷ []) - 1 ≡ length front
-      at_end = omega (arith, len)
-
-      last : get_or (front ++ line_end ∷ []) (length front) 0 ≡ line_end
-      last = get_or-append_seam front line_end [] 0
-
-  line_ends : (r : Refusal) → IsLineStart (line_of r) (length (line_of r))
-  line_ends r = ends_line (codes "error: " ++ cause_of r)
-
-  -- what is meant at status 10 is a line
-  means_ten : (status : ℕ) (text : List ℕ) → Means words held loads now status text → status ≡ 10 → IsLineStart text (length text)
+  -- what is meant at status 10 is the line of want of memory
+  means_ten : (status : ℕ) (text : List ℕ) → Means words held loads now status text → status ≡ 10 → text ≡ line_of Memory
   means_ten status text (Replies still (NotUsed none same s t)) ten = absurd (omega arith)
-  means_ten status text (Replies still (Refused q refusal asks first same s t)) ten = subst (λ (l : List ℕ). IsLineStart l (length l)) (sym t) (line_ends refusal)
+  means_ten status text (Replies still (Refused q refusal asks first same s t)) ten = t ∙ ap line_of (only refusal (sym s ∙ ten))
+    where
+      only : (r : Refusal) → status_of r ≡ 10 → r ≡ Memory
+      only Memory e = refl
+      only Usage e = absurd (omega arith)
+      only File e = absurd (omega arith)
+      only ProgramForm e = absurd (omega arith)
+      only InputsForm e = absurd (omega arith)
+      only FileMissing e = absurd (omega arith)
+      only (Scratchpad need have) e = absurd (omega arith)
   means_ten status text (Replies still (Done q asks passes prints same s)) ten = absurd (omega arith)
   means_ten status text (LacksFile rose s t) ten = absurd (omega arith)
-  means_ten status text (LacksMemory s t) ten = subst (λ (l : List ℕ). IsLineStart l (length l)) (sym t) (line_ends Memory)
+  means_ten status text (LacksMemory s t) ten = t
 
   pub memory : (result : ℕ) → Ends words held loads now taken taken_now faults faults_now result → result ≡ 10
-      → (faults_now ≡ faults) × TakesLinesOfAny words held loads now taken taken_now
+      → (faults_now ≡ faults) × (Takes taken taken_now (line_of Memory) ⊎ TakesLinesOfAny words held loads now taken taken_now)
   memory result ends ten = by ends.puts
     where
-      by : Puts taken taken_now faults faults_now ends.status ends.text result → (faults_now ≡ faults) × TakesLinesOfAny words held loads now taken taken_now
-      by (PutsWhole is takes kept) = (
-        kept,
-        record {
-          status = ends.status;
-          text = ends.text;
-          means = ends.means;
-          lines = record {
-            count = length ends.text;
-            in_text = omega arith;
-            whole = means_ten ends.status ends.text ends.means (sym is ∙ ten);
-            taken = subst (Takes taken taken_now) (sym (take_all (length ends.text) ends.text (omega arith))) takes;
-          };
-        },
-      )
+      by : Puts taken taken_now faults faults_now ends.status ends.text result → (faults_now ≡ faults) × (Takes taken taken_now (line_of Memory) ⊎ TakesLinesOfAny words held loads now taken taken_now)
+      by (PutsWhole is takes kept) = (kept, inl (subst (Takes taken taken_now) (means_ten ends.status ends.text ends.means (sym is ∙ ten)) takes))
       by (PutsPart is part rose) = absurd (omega arith)
-      by (PutsLines is lines kept) = (kept, record { status = ends.status; text = ends.text; means = ends.means; lines = lines })
+      by (PutsLines is lines kept) = (kept, inr (record { status = ends.status; text = ends.text; means = ends.means; lines = lines }))

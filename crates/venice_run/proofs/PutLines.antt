@@ -5,7 +5,7 @@ use Rattle.std.proofs.lemmas.List.{drop-take, take-take}
 use Rattle.std.proofs.lemmas.Bool.{cases_lt}
 use Rattle.ven_io.specs.Sink.{Takes, TakesPart}
 use Rattle.ven_io.proofs.SinkLemmas.{Takes-then, TakesPart-more, Takes-then-part}
-use Rattle.venice_run.specs.Refusal.{line_end}
+use Rattle.ven_io.specs.Token.{line_end}
 use Rattle.venice_run.specs.Lines.{IsLineStart, TakesLines}
 
 -- the text up to a place, and from there to the next
@@ -39,5 +39,5 @@ not_failed x e h = cc
 
 pub TakesLines-of : (before after : Option (List ℕ)) (text : List ℕ) (start : ℕ) → start < length text → IsLineStart text start ⊎ (start ≡ length text)
     → Takes before after (take start text) → TakesLines before after text
-TakesLines-of before after text start lt (inl whole) taken = record { count = start; in_text = omega arith; whole = whole; taken = taken }
+TakesLines-of before after text start lt (inl whole) taken = record { count = start; short = lt; whole = whole; taken = taken }
 TakesLines-of before after text start lt (inr at_end) taken = absurd (omega arith)

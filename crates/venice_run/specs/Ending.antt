@@ -73,7 +73,7 @@ pub record TakesPartOfAny (words : List (List ℕ)) (held : Option Held) (loads 
   pub means : Means words held loads loads_now status text
   pub part : TakesPart taken taken_now text
 
--- after status 10: whole lines of the reply's text or of a fault's line were taken, none among them
+-- after status 10: whole lines of a text that was meant were taken, and not all of it; so nothing of a refusal's one line
 pub record TakesLinesOfAny (words : List (List ℕ)) (held : Option Held) (loads loads_now : ℕ) (taken taken_now : Option (List ℕ)) : Type 0 where
   pub status : ℕ
   pub text : List ℕ

@@ -5,7 +5,7 @@ use Rattle.std.specs.List.{zip, join_with_byte}
 use Rattle.ven_base.specs.declared.elem.Elem.{Elem}
 use Rattle.ven_base.specs.declared.elem.Elem.TheVariants.{U8, I8, U16, I16, U32, I32}
 use Rattle.ven_base.specs.Wrap.{wrapped}
-use Rattle.venice_run.specs.Refusal.{line_end}
+use Rattle.ven_io.specs.Token.{line_end}
 
 -- the word of an element type
 abbrev pub type_word : Elem → List ℕ

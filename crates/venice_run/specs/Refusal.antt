@@ -1,11 +1,8 @@
 -- Refusals: the status and the line of each.
 use Rattle.std.specs.Prelude.{ℕ, List, [], ◌∷◌, ◌++◌, codes, decimal}
+use Rattle.ven_io.specs.Token.{line_end}
 use Rattle.venice_run.specs.declared.refusal.Refusal.{Refusal}
 use Rattle.venice_run.specs.declared.refusal.Refusal.TheVariants.{Usage, ProgramForm, InputsForm, Scratchpad, File, FileMissing, Memory}
-
--- the byte that ends a line
-abbrev pub line_end : ℕ
-line_end = 10
 
 -- the status that the program ends with
 abbrev pub status_of : Refusal → ℕ

@@ -3,7 +3,7 @@
 ghost use Rattle.std.specs.Prelude.{◌≡◌, ◌-◌, ◌<◌, ◌≤◌, length, slice_index, OnOk, IsErrOf};
 ghost use Rattle.ven_io.specs.Faults.{CountsFaults};
 ghost use Rattle.ven_io.specs.Sink.{Takes, TakesPart};
-ghost use Rattle.venice_run.specs.Refusal.{line_end};
+ghost use Rattle.ven_io.specs.Token.{line_end};
 ghost use Rattle.venice_run.specs.Lines.{TakesLines};
 
 use memchr::memchr;

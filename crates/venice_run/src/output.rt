@@ -1,4 +1,4 @@
-//! The text of an array, and putting a text line by line.
+//! The printed text of an array.
 
 ghost use Rattle.std.specs.Prelude.{◌≡◌, ◌++◌, ◌≤◌, ◌<◌, ◌^◌, length, map, codes, decimal, vec_len, IfOk, OnOk, All};
 ghost use Rattle.std.specs.Fmt.{signed_decimal};

@@ -254,19 +254,21 @@ fn a_program_has_up_to_65536_bytes(rt: HostRuntime) -> Result<(), Fail> {
 #[test]
 fn faults_of_the_outside_have_their_status(rt: HostRuntime) -> Result<(), Fail> {
     let alloc = rt.alloc();
-    let run = ["run", "P", "I", "M", "4", "28"];
-    // Which load fails, which put fails, the status, and what the sink has taken.
-    let cases: [(u64, u64, u8, &[u8]); 5] = [
-        (0, 0, 0, b"y u8[1,4]\n5 7 9 4\n"),
-        (0, 2, 9, b"y u8[1,4]\n5 7 "),
-        (1, 0, 8, b"error: file\n"),
-        (2, 0, 8, b"error: file\n"),
-        (1, 1, 9, b"error:"),
+    // The scratchpad, which load fails, which put fails, the status, and what the sink has taken.
+    // INPUTS is loaded only once the scratchpad was found large enough.
+    let cases: [(&str, u64, u64, u8, &[u8]); 6] = [
+        ("28", 0, 0, 0, b"y u8[1,4]\n5 7 9 4\n"),
+        ("28", 0, 2, 9, b"y u8[1,4]\n5 7 "),
+        ("28", 1, 0, 8, b"error: file\n"),
+        ("28", 2, 0, 8, b"error: file\n"),
+        ("27", 2, 0, 5, b"error: scratchpad need 28 have 27\n"),
+        ("28", 1, 1, 9, b"error:"),
     ];
-    for (load, put, want, taken) in cases {
+    for (spad, load, put, want, taken) in cases {
         let mut files = files_with(alloc, PROGRAM, INPUTS, vec![in alloc; load]?)?;
         let mut out = MemSink::new(alloc, vec![in alloc; put]?);
-        assert_eq!(rt; status(alloc, &run, &mut files, &mut out)?, want);
+        let words = ["run", "P", "I", "M", "4", spad];
+        assert_eq!(rt; status(alloc, &words, &mut files, &mut out)?, want);
         assert_eq!(rt; out.taken(), taken);
         assert_eq!(rt; files.get("P"), Some(PROGRAM.as_bytes()));
         assert_eq!(rt; files.get("I"), Some(INPUTS.as_bytes()));

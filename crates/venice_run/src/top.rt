@@ -44,7 +44,8 @@ pub fn venice<F: Files, S: Sink>(alloc: Global, words: &[String], files: &mut F,
 
     // Memory ran out.
     ensures memory { result ≡ 10 → (S.faults out.new ≡ S.faults out.old)
-        × TakesLinesOfAny (texts_of words.now) (F.held files.old) (F.load_faults files.old) (F.load_faults files.new) (S.taken out.old) (S.taken out.new) }
+        × (Takes (S.taken out.old) (S.taken out.new) (line_of Refusal.Memory)
+        ⊎ TakesLinesOfAny (texts_of words.now) (F.held files.old) (F.load_faults files.old) (F.load_faults files.new) (S.taken out.old) (S.taken out.new)) }
 
     // No command changes a file.
     ensures held { F.held files.new ≡ F.held files.old }

@@ -1,0 +1,31 @@
+A standard output that takes nothing: status 9, whatever the status would have been.
+
+  $ venice() { "$TESTDIR/../../venice" "$@"; }
+  $ echo 'input a u8[1,4]; input b u8[1,4]; output y = a + b;' > add.ven
+  $ echo 'a u8[1,4] 1 2 3 250 b u8[1,4] 4 5 6 10' > add.arrays
+
+It is full.
+
+  $ venice run add.ven add.arrays add.image 4 28 > /dev/full
+  [9]
+  $ venice run add.ven add.arrays add.image 4 27 > /dev/full
+  [9]
+  $ venice run no.ven add.arrays add.image 4 28 > /dev/full
+  [9]
+  $ venice > /dev/full
+  [9]
+
+It is closed.
+
+  $ venice run add.ven add.arrays add.image 4 28 >&-
+  [9]
+  $ venice run add.ven add.arrays add.image 4 27 >&-
+  [9]
+  $ venice >&-
+  [9]
+
+Nothing is read from standard input.
+
+  $ venice run add.ven add.arrays add.image 4 28 <&-
+  y u8[1,4]
+  5 7 9 4

@@ -1,0 +1,83 @@
+The words have to be those of the command, with numbers in plain decimals: else the status is 2.
+
+  $ venice() { "$TESTDIR/../../venice" "$@"; }
+  $ echo 'input a u8[1,4]; input b u8[1,4]; output y = a + b;' > add.ven
+  $ echo 'a u8[1,4] 1 2 3 250 b u8[1,4] 4 5 6 10' > add.arrays
+
+No words, unknown commands, and options, of which there are none.
+
+  $ venice
+  error: usage
+  [2]
+  $ venice add add.ven add.arrays add.image 4 28
+  error: usage
+  [2]
+  $ venice RUN add.ven add.arrays add.image 4 28
+  error: usage
+  [2]
+  $ venice '' add.ven add.arrays add.image 4 28
+  error: usage
+  [2]
+  $ venice --help
+  error: usage
+  [2]
+  $ venice --version
+  error: usage
+  [2]
+
+Too few words, and too many.
+
+  $ venice run
+  error: usage
+  [2]
+  $ venice run add.ven add.arrays add.image 4
+  error: usage
+  [2]
+  $ venice run add.ven add.arrays add.image 4 28 28
+  error: usage
+  [2]
+
+LANES is 1 to 4, without a sign, a leading zero or a blank.
+
+  $ for lanes in 0 5 04 +4 -4 4.0 0x4 ' 4' '' four 4294967300; do
+  >   line=$(venice run add.ven add.arrays add.image "$lanes" 28)
+  >   echo "$? $line: '$lanes'"
+  > done
+  2 error: usage: '0'
+  2 error: usage: '5'
+  2 error: usage: '04'
+  2 error: usage: '+4'
+  2 error: usage: '-4'
+  2 error: usage: '4.0'
+  2 error: usage: '0x4'
+  2 error: usage: ' 4'
+  2 error: usage: ''
+  2 error: usage: 'four'
+  2 error: usage: '4294967300'
+
+SPAD is 1 to 1,048,576, in the same form.
+
+  $ for spad in 0 028 1048577 +28 -28 28B 0x1C '' 99999999999999999999; do
+  >   line=$(venice run add.ven add.arrays add.image 4 "$spad")
+  >   echo "$? $line: '$spad'"
+  > done
+  2 error: usage: '0'
+  2 error: usage: '028'
+  2 error: usage: '1048577'
+  2 error: usage: '+28'
+  2 error: usage: '-28'
+  2 error: usage: '28B'
+  2 error: usage: '0x1C'
+  2 error: usage: ''
+  2 error: usage: '99999999999999999999'
+
+The words come before everything else: no file is looked at.
+
+  $ venice run no.ven no.arrays no.image 0 28
+  error: usage
+  [2]
+
+Words that the system can't give as text: nothing is printed, and the status is 15.
+
+  $ venice run add.ven add.arrays "$(printf '\377')" 4 28
+  [15]
