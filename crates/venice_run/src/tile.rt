@@ -18,18 +18,20 @@ pub fn one_tile(alloc: Global, cols: u32) -> Result<Vec<Issue>, AllocError>
 {
     let second = second_place(cols);
     let sum = sum_place(cols);
+    let all_read = Issue::RWait(0);
+    let all_written = Issue::WWait(0);
     Vec::from_slice(
         alloc,
         &[
             Issue::Read(row_transfer(0, 0, cols)),
             Issue::Read(row_transfer(second, 2 * cols, cols)),
-            Issue::RWait(0),
-            Issue::WWait(0),
+            all_read,
+            all_written,
             Issue::Vector(row_addition(cols, 5 * cols, 0, 2 * cols)),
             Issue::VWait,
             Issue::Write(row_transfer(sum, 5 * cols, cols)),
-            Issue::RWait(0),
-            Issue::WWait(0),
+            all_read,
+            all_written,
         ],
     )
 }
