@@ -8,3 +8,6 @@ pub mod Denoting
 pub mod ReadTexts
 pub mod Stages
 pub mod Endings
+pub mod Rows
+pub mod Tiles
+pub mod Steps

@@ -2,6 +2,9 @@ pub mod Words
 pub mod Refusal
 pub mod Addition
 pub mod Output
+pub mod Tile
+pub mod TileLaw
+pub mod Executor
 pub mod Request
 pub mod Reply
 pub mod Items

@@ -1,6 +1,6 @@
 //! The stages of `run`, each with its refusals.
 
-ghost use Rattle.std.specs.Prelude.{◌≡◌, ◌<◌, ◌≤◌, IfOk, IsErrOf, MatchResult};
+ghost use Rattle.std.specs.Prelude.{◌≡◌, ◌<◌, ◌≤◌, length, IfOk, IsErrOf, MatchResult};
 ghost use Rattle.ven_io.specs.Faults.{CountsFaults};
 ghost use Rattle.venice_run.specs.Output.{one_row_text as text_lem, sums_of};
 ghost use Rattle.venice_run.specs.Additions.{denoted};
@@ -14,8 +14,9 @@ use crate::items::items_of;
 use crate::operands::Operands;
 use crate::output::one_row_text;
 use crate::refusal::Refusal;
+use crate::sums::sums_by_tile;
 use std::alloc::{AllocError, Global};
-use ven_base::{Elem, wrap};
+use ven_base::Elem;
 use ven_io::{Files, LoadFault};
 
 /// The greatest length of a program's text and of an array file, in bytes.
@@ -94,28 +95,16 @@ fn read_inputs<F: Files>(
     operands_of(alloc, &text, addition)
 }
 
-// The wrapped sums of two arrays of an element type, value by value.
-fn wrapped_sums(
-    alloc: Global,
-    elem: Elem,
-    first: &[u8],
-    second: &[u8],
-) -> Result<Vec<i64>, AllocError>
-    ensures { IfOk result (λ sums. sums.items ≡ sums_of elem first.now second.now) }
-{
-    first
-        .iter()
-        .zip(second.iter())
-        .map(|(x, y)| wrap(elem, i128::from(*x) + i128::from(*y)))
-        .collect(alloc)
-}
-
 // The text of the sums that the addition prints.
 fn sum_text(alloc: Global, addition: &Addition, operands: &Operands) -> Result<Vec<u8>, AllocError>
+    requires some { 1 ≤ addition.now.columns }
+    requires few { addition.now.columns ≤ 2048 }
+    requires first { length operands.now.first.items ≡ addition.now.columns }
+    requires second { length operands.now.second.items ≡ addition.now.columns }
     ensures { IfOk result (λ text. text.items ≡
         text_lem addition.now.sum Elem.U8 (sums_of Elem.U8 operands.now.first.items operands.now.second.items)) }
 {
-    let sums = wrapped_sums(alloc, Elem::U8, &operands.first, &operands.second)?;
+    let sums = sums_by_tile(alloc, &operands.first, &operands.second)?;
     one_row_text(alloc, addition.sum.bytes(), Elem::U8, &sums)
 }
 

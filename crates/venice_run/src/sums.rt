@@ -1,0 +1,70 @@
+//! The sums of two arrays, made by the tile.
+
+ghost use Rattle.std.specs.Prelude.{◌≡◌, ◌+◌, ◌≤◌, length, map, pos, IfOk};
+ghost use Rattle.venice_isa.specs.Cell.{part, overwritten};
+ghost use Rattle.venice_run.specs.Output.{sums_of};
+ghost use Rattle.venice_run.specs.Tile.{second_place, sum_place, sum_cell};
+ghost use Rattle.venice_run.specs.TileLaw.{IsLaidOut};
+ghost use Rattle.venice_run.specs.Executor.{store_of};
+
+use crate::executor::{do_list, overwrite, part};
+use crate::tile::{one_tile, second_place, sum_place};
+use std::alloc::{AllocError, Global};
+use ven_base::Elem;
+
+/// The wrapped sums of two arrays of 1 to 2,048 bytes, as the tile's list leaves them in memory.
+pub(crate) fn sums_by_tile(
+    alloc: Global,
+    first: &[u8],
+    second: &[u8],
+) -> Result<Vec<i64>, AllocError>
+    requires some { 1 ≤ length first.now }
+    requires few { length first.now ≤ 2048 }
+    requires one_length { length second.now ≡ length first.now }
+    ensures { IfOk result (λ sums. sums.items ≡ sums_of Elem.U8 first.now second.now) }
+{
+    let cols = first.len() as u32;
+    let list = one_tile(alloc, cols)?;
+    let mut memory = laid_out(alloc, first, second)?;
+    let mut cells = vec![in alloc; (0, false); 7 * first.len()]?;
+    do_list(alloc, &list, &mut cells, &mut memory)?;
+    numbers(alloc, part(&memory, sum_place(cols), cols))
+}
+
+// Memory that holds the two arrays at their places, and has room for the sums.
+fn laid_out(alloc: Global, first: &[u8], second: &[u8]) -> Result<Vec<u8>, AllocError>
+    requires some { 1 ≤ length first.now }
+    requires few { length first.now ≤ 2048 }
+    requires one_length { length second.now ≡ length first.now }
+    ensures first { IfOk result (λ memory. part memory.items 0 (length first.now) ≡ first.now) }
+    ensures second { IfOk result (λ memory. part memory.items (second_place (length first.now)) (length first.now) ≡ second.now) }
+    ensures room { IfOk result (λ memory. length memory.items ≡ sum_place (length first.now) + length first.now) }
+{
+    let cols = first.len() as u32;
+    let mut memory = vec![in alloc; 0; sum_place(cols) as usize + first.len()]?;
+    overwrite(&mut memory, 0, first);
+    overwrite(&mut memory, second_place(cols), second);
+    Ok(memory)
+}
+
+// The numbers that bytes are.
+fn numbers(alloc: Global, bytes: &[u8]) -> Result<Vec<i64>, AllocError>
+    ensures { IfOk result (λ numbers. numbers.items ≡ map pos bytes.now) }
+{
+    bytes.iter().map(|byte| i64::from(*byte)).collect(alloc)
+}
+
+#[cfg(test)]
+mod tests {
+    use super::*;
+    use std::test::Fail;
+
+    #[test]
+    fn sums_wrap_as_worked_out_by_hand(rt: HostRuntime) -> Result<(), Fail> {
+        let sums = sums_by_tile(rt.alloc(), &[1, 2, 3, 250], &[4, 5, 6, 10])?;
+        assert_eq!(rt; sums.as_slice(), [5, 7, 9, 4].as_slice());
+        let sums = sums_by_tile(rt.alloc(), &[255, 0, 128, 200, 7], &[1, 0, 128, 99, 8])?;
+        assert_eq!(rt; sums.as_slice(), [0, 0, 0, 43, 15].as_slice());
+        Ok(())
+    }
+}
