@@ -35,20 +35,20 @@ size_at_most U32 = lit≤ tt
 size_at_most I32 = lit≤ tt
 
 -- a beat of a lane or more takes an element or more
-some_group : (work : VecWork) (lanes : ℕ) → 0 < lanes → 0 < lane_group work.kind lanes
+pub some_group : (work : VecWork) (lanes : ℕ) → 0 < lanes → 0 < lane_group work.kind lanes
 some_group work lanes some =
     let greater = max (size_of work.kind.elem) (size_of work.kind.from) in
     let positive : 0 < greater = omega (arith, size_positive work.kind.elem) in
     let fits : 1 * greater ≤ 4 * lanes = omega (arith, size_at_most work.kind.elem, size_at_most work.kind.from) in
     le-div 1 (4 * lanes) greater positive fits
 
-spelled_length : (elem : Elem) (n : ℤ) (flag : Bool) → length (spelled elem n flag) ≡ size_of elem
+pub spelled_length : (elem : Elem) (n : ℤ) (flag : Bool) → length (spelled elem n flag) ≡ size_of elem
 spelled_length elem n flag = length-map _ _ ∙ low_bytes_length (size_of elem) (bits_of elem n)
 
 -- ---- the cells of a group
 
 module _ (work : VecWork) (no_sum : work.kind.acc ≡ false) (cells : List Cell) (inside : LiesBelow (destination work) (length cells)) (r : ℕ) (row : r < work.rows) where
-  element_length : (j : ℕ) → j < work.vl → length (new_element work cells r j) ≡ size_of work.kind.elem
+  pub element_length : (j : ℕ) → j < work.vl → length (new_element work cells r j) ≡ size_of work.kind.elem
   unfolding new_element
   element_length j column =
       let size = size_of work.kind.elem in
@@ -60,7 +60,7 @@ module _ (work : VecWork) (no_sum : work.kind.acc ≡ false) (cells : List Cell)
         | inr moved ↦ ap length (cond-false _ _ _ moved) ∙ spelled_length _ _ _
       ]
 
-  elements_length : (j count : ℕ) → j + count ≤ work.vl → length (new_elements work cells r j count) ≡ count * size_of work.kind.elem
+  pub elements_length : (j count : ℕ) → j + count ≤ work.vl → length (new_elements work cells r j count) ≡ count * size_of work.kind.elem
   elements_length j zero columns = omega arith
   elements_length j (suc count) columns =
       omega (arith, length-append (new_element work cells r j) (new_elements work cells r (j + 1) count), element_length j (omega arith), elements_length (j + 1) count (omega arith))
@@ -86,7 +86,7 @@ module _ (work : VecWork) (no_sum : work.kind.acc ≡ false) (cells : List Cell)
       ∙ ap (new_element work cells r) here
 
 -- the sum of a part of a row and of the part behind it
-sum_on : (work : VecWork) (cells : List Cell) (r j m n : ℕ) → sum_of_results work cells r j m +ℤ sum_of_results work cells r (j + m) n ≡ sum_of_results work cells r j (m + n)
+pub sum_on : (work : VecWork) (cells : List Cell) (r j m n : ℕ) → sum_of_results work cells r j m +ℤ sum_of_results work cells r (j + m) n ≡ sum_of_results work cells r j (m + n)
 sum_on work cells r j zero n =
     let here : j + zero ≡ j = omega arith in
     let all : zero + n ≡ n = omega arith in

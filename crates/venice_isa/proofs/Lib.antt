@@ -8,3 +8,4 @@ pub mod Spellings
 pub mod Results
 pub mod Beats
 pub mod Transfers
+pub mod OneBeat

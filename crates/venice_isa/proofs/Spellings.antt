@@ -62,7 +62,7 @@ spelled_again (byte ∷ bytes) each =
 -- ---- elements
 
 -- as many numbers as an element's bytes spell
-byte_power : (elem : Elem) → 256 ^ size_of elem ≡ modulus_of elem
+pub byte_power : (elem : Elem) → 256 ^ size_of elem ≡ modulus_of elem
 byte_power U8 = refl
 byte_power I8 = refl
 byte_power U16 = refl
@@ -75,7 +75,7 @@ bits_left : (elem : Elem) (n : ℤ) → int_rem_euclid n (pos (modulus_of elem))
 bits_left elem (pos n) = refl
 bits_left elem (negsuc n) = refl
 
-bits_below : (elem : Elem) (n : ℤ) → bits_of elem n < modulus_of elem
+pub bits_below : (elem : Elem) (n : ℤ) → bits_of elem n < modulus_of elem
 bits_below elem n =
     let range = rem_range (modulus_of elem) n (modulus_pos elem) in
     let left = bits_left elem n in
@@ -91,7 +91,7 @@ bits_wrap elem n range =
     sym (IsWrapped-is elem (pos (bits_of elem n)) n (record { in_range = range; congruent = AreCongruent-sym (modulus_of elem) n (pos (bits_of elem n)) (bits_congruent elem n) }))
 
 -- what a number wraps to has its bits
-wrap_bits : (elem : Elem) (bits : ℕ) → bits < modulus_of elem → bits_of elem (wrapped elem (pos bits)) ≡ bits
+pub wrap_bits : (elem : Elem) (bits : ℕ) → bits < modulus_of elem → bits_of elem (wrapped elem (pos bits)) ≡ bits
 wrap_bits elem bits below =
     let m = modulus_of elem in
     let n = wrapped elem (pos bits) in

@@ -50,7 +50,7 @@ answer_without_b Cast elem a b b' none = refl
 answer_without_b Abs elem a b b' none = refl
 answer_without_b _ elem a b b' none = absurd (true≢false none)
 
-result_without_b : (kind : VecKind) (a b b' : ℤ) → uses_b kind.op ≡ false → result_of kind a b' ≡ result_of kind a b
+pub result_without_b : (kind : VecKind) (a b b' : ℤ) → uses_b kind.op ≡ false → result_of kind a b' ≡ result_of kind a b
 unfolding result_of
 result_without_b kind a b b' none = answer_without_b kind.op kind.elem a b b' none
 
@@ -88,7 +88,7 @@ no_flag_of_scalar : (work : VecWork) → work.kind.b_scalar ≡ true → (flag f
 no_flag_of_scalar work scalar = no_scalar_mode work.kind.op work.kind.b_scalar work.kind.acc work.kind.mode_allowed scalar
 
 -- an element that is left alone is a conditional move's
-conditional_from : (work : VecWork) (cells : List Cell) (r j : ℕ) → is_left_alone work cells r j ≡ true → is_conditional work.kind.op ≡ true
+pub conditional_from : (work : VecWork) (cells : List Cell) (r j : ℕ) → is_left_alone work cells r j ≡ true → is_conditional work.kind.op ≡ true
 unfolding is_left_alone
 conditional_from work cells r j alone = (and_parts _ _ alone).0
 
@@ -108,7 +108,7 @@ ReadsFor work r j p =
     ((work.kind.a_scalar ≡ false) × IsAt (source_a work) r j p) ⊎ (((uses_b work.kind.op ≡ true) × (work.kind.b_scalar ≡ false) × IsAt (source_b work) r j p) ⊎ ((is_conditional work.kind.op ≡ true) × IsAt (destination work) r j p))
 
 -- what is read for an element is in the read footprint
-reads_for_is_read : (work : VecWork) (r j p : ℕ) → ReadsFor work r j p → ReadsCell (Vector work) p
+pub reads_for_is_read : (work : VecWork) (r j p : ℕ) → ReadsFor work r j p → ReadsCell (Vector work) p
 reads_for_is_read work r j p read =
     elim read [
       | inl by_a ↦ inl (by_a.0, (r, j, by_a.1))

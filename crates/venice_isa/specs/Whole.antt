@@ -32,6 +32,7 @@ abbrev pub is_one : ℤ → Bool
 is_one (pos n) = n == 1
 is_one (negsuc n) = false
 
+-- the flags of an element's cells, without accumulate
 abbrev pub flag_for : VecKind → ℤ → Bool
 flag_for kind result = is_comparison kind.op && is_one result
 

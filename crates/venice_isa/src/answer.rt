@@ -9,7 +9,7 @@ use crate::op::VecOp;
 use ven_base::{Elem, Op1, Op2, apply1, apply2, wrap};
 
 /// The instruction's answer at `a`, a number of A's type, and `b`, a number of the results' type,
-/// which counts only where the operation takes B. Sums, products and shifts wrap into the results'
+/// which has no say in `Mov`, `Cast`, `Abs` and `Cmov`. What an operation computes wraps into the results'
 /// type; a comparison answers 1 or 0; a conditional move answers what it would write.
 pub fn result_of(kind: VecKind, a: i64, b: i64) -> i64
     requires a_in_type { IsElement kind.from a }
@@ -23,7 +23,7 @@ pub fn result_of(kind: VecKind, a: i64, b: i64) -> i64
     }
 }
 
-/// Whether the flags of an element are set with this result: those of a comparison that answers 1.
+/// Whether the flags of an element are set with this result, without accumulate: those of a comparison that answers 1.
 pub fn sets_flag(kind: VecKind, result_value: i64) -> bool
     ensures { result ≡ flag_for kind result_value }
 {

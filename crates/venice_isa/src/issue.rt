@@ -1,3 +1,5 @@
+//! What the host issues: work for the units, and waits for them.
+
 use crate::work::{DmaWork, VecWork};
 
 /// One place of an issue list: a work for the lanes, for the read channel or for the write channel,

@@ -12,7 +12,7 @@ pub fn whole_writes_its_footprint()
     ensures { WholeWritesItsFootprint }
 {}
 
-/// What a vector instruction writes depends only on the cells of its read footprint.
+/// Of cells of one number, what a vector instruction writes depends only on those of its read footprint.
 pub fn whole_reads_its_footprint()
     ensures { WholeReadsItsFootprint }
 {}
@@ -22,13 +22,14 @@ pub fn whole_is_determined()
     ensures { WholeIsDetermined }
 {}
 
-/// A read copies its bytes of memory to their cells with their flags cleared, and changes no other
-/// cell.
+/// A read in range, no row of which reaches into the next in cells, copies its bytes of memory to their
+/// cells with their flags cleared. A read in range changes no other cell.
 pub fn read_copies_its_rows()
     ensures { ReadCopiesItsRows }
 {}
 
-/// A write copies the bytes of its cells to their places in memory, and changes no other byte.
+/// A write in range, no row of which reaches into the next in memory, copies the bytes of its cells to
+/// their places there. A write in range changes no other byte.
 pub fn write_copies_its_rows()
     ensures { WriteCopiesItsRows }
 {}

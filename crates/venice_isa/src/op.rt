@@ -1,3 +1,5 @@
+//! The operations of vector instructions.
+
 /// An operation of the lanes. `Mov`, `Cast` and `Abs` take A alone, the others A and B; `Cmov`
 /// writes A where the flag of B is set.
 #[derive(Clone, Copy, Debug, PartialEq, Eq, Hash)]

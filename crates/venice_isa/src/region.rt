@@ -1,3 +1,5 @@
+//! Where elements, or bytes of a transfer, stand.
+
 /// Rows of elements, in cells or in memory. Row 0 begins at the byte `place`, and each row `step`
 /// bytes after the one before. In a row `columns` elements of `size` bytes stand one directly after
 /// the other.

@@ -1,8 +1,10 @@
+//! Vector instructions and transfers with their parameters.
+
 use crate::kind::VecKind;
 use crate::region::Region;
 
 /// A vector instruction with its parameters. `vl` counts the elements of a row. `dst`, `a` and `b`
-/// are cells, or for a scalar the number itself; the steps count cells from row to row.
+/// are cells, or of `a` and `b` the number itself where it is a scalar; the steps count cells from row to row.
 #[derive(Clone, Copy, Debug, PartialEq, Eq, Hash)]
 pub struct VecWork {
     pub kind: VecKind,
@@ -83,7 +85,7 @@ impl VecWork {
         }
     }
 
-    /// How many beats of so many lanes a row takes.
+    /// How many beats of so many lanes, 1 to 4, a row takes.
     pub fn row_beats(&self, lanes: u32) -> u32
         requires some_lanes { 0 < lanes }
         requires few_lanes { lanes ≤ 4 }
@@ -92,7 +94,7 @@ impl VecWork {
         self.vl.div_ceil(self.kind.group(lanes))
     }
 
-    /// How many beats of so many lanes the instruction takes.
+    /// How many beats of so many lanes, 1 to 4, the instruction takes.
     pub fn beats(&self, lanes: u32) -> u64
         requires some_lanes { 0 < lanes }
         requires few_lanes { lanes ≤ 4 }

@@ -1,0 +1,6 @@
+pub mod Currents
+pub mod Elements
+pub mod Places
+pub mod Groups
+pub mod Beats
+pub mod Queues

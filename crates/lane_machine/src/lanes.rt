@@ -1,0 +1,155 @@
+ghost use Rattle.std.specs.Prelude.{◌≡◌, ◌<◌, ◌≤◌, [], All, MatchOption, IfOk, slice_get};
+ghost use Rattle.venice_isa.specs.Whole.{HasCounts};
+ghost use Rattle.lane_machine.specs.Current.{IsAt, IsIdle, progress_of};
+ghost use Rattle.venice_isa.specs.Beat.{not_begun};
+
+use crate::current::Current;
+use crate::group::beat;
+use circular_buffer::HeapCircularBuffer;
+use spad_store::{MainMem, Spad, Unit};
+use std::alloc::{AllocError, Global};
+use std::marker::Model;
+use venice_isa::VecWork;
+
+/// The lanes: a queue of four vector instructions, of which the first is done beat by beat.
+#[derive(Drop)]
+pub struct Lanes {
+    queue: HeapCircularBuffer<VecWork>,
+    current: Current,
+}
+
+impl Model for Lanes {
+    ghost use Rattle.lane_machine.specs.State.{State};
+
+    ghost Value = { State };
+
+    ghost use Rattle.lane_machine.specs.Lanes.{state_of, IsLanes};
+
+    ghost view = { state_of };
+
+    ghost invariant = { IsLanes };
+}
+
+impl Lanes {
+    /// How many works the queue holds.
+    pub const PLACES: u32 = 4;
+
+    /// So many lanes, from 1 to 4, with an empty queue.
+    pub fn new(alloc: Global, lanes: u32) -> Result<Lanes, AllocError>
+        requires some { 0 < lanes }
+        requires few { lanes ≤ 4 }
+        ensures { IfOk result (λ unit. unit ≡ record { works = []; progress = not_begun; lanes = lanes }) }
+    {
+        let queue = HeapCircularBuffer::with_capacity(alloc, Self::PLACES as usize)?;
+        Ok(Lanes {
+            queue,
+            current: Current::idle(lanes),
+        })
+    }
+}
+
+/// The queue's first work, not begun.
+fn first_of(queue: &HeapCircularBuffer<VecWork>, lanes: u32) -> Current
+    requires counts { All HasCounts queue.now.items }
+    requires some_lanes { 0 < lanes }
+    requires few_lanes { lanes ≤ 4 }
+    ensures first { MatchOption (slice_get queue.now.items 0) (IsIdle lanes result) (λ work. IsAt lanes work result) }
+    ensures begins { progress_of result ≡ not_begun }
+    ensures lanes { result.lanes ≡ lanes }
+{
+    match queue.front() {
+        Some(work) => Current::begin(work, lanes),
+        None => Current::idle(lanes),
+    }
+}
+
+impl Unit for Lanes {
+    type Work = VecWork;
+
+    ghost use Rattle.std.specs.Prelude.{ℕ, ◌<◌, ◌≤◌, refl};
+    ghost use Rattle.venice_isa.specs.declared.issue.Issue.TheVariants.{Vector};
+    ghost use Rattle.venice_isa.specs.Footprint.{ReadsCell, WritesCell, ReadsMemory, WritesMemory};
+    ghost use Rattle.venice_isa.specs.Whole.{HasCounts};
+    ghost use Rattle.venice_isa.specs.Beat.{Progress as LaneProgress, not_begun as no_beat, vector_beats, vector_beat, progress_after as lane_progress_after};
+    ghost use Rattle.lane_machine.specs.Laws.{beat_writes, beat_reads, some_beat};
+
+    ghost Progress = { LaneProgress };
+
+    ghost Setting = { ℕ };
+
+    ghost can_have = { λ lanes. (0 < lanes) × (lanes ≤ 4) };
+
+    ghost has_counts = { HasCounts };
+
+    ghost reads_cell = { λ work. ReadsCell (Vector work) };
+
+    ghost writes_cell = { λ work. WritesCell (Vector work) };
+
+    ghost reads_memory = { λ work. ReadsMemory (Vector work) };
+
+    ghost writes_memory = { λ work. WritesMemory (Vector work) };
+
+    ghost beats = { λ lanes work. vector_beats work lanes };
+
+    ghost done = { λ progress. progress.done };
+
+    ghost not_begun = { no_beat };
+
+    ghost cells_after = { λ lanes work progress cells memory. vector_beat work lanes progress cells };
+
+    ghost memory_after = { λ lanes work progress cells memory. memory };
+
+    ghost progress_after = { λ lanes work progress cells memory. lane_progress_after work lanes progress cells };
+
+    ghost queue = { λ lanes. lanes.works };
+
+    ghost places = { λ lanes. 4 };
+
+    ghost progress = { λ lanes. lanes.progress };
+
+    ghost setting = { λ lanes. lanes.lanes };
+
+    ghost writes_its_footprint = { beat_writes };
+
+    ghost reads_its_footprint = { beat_reads };
+
+    ghost comes_nearer = { λ lanes work progress cells memory. refl };
+
+    ghost begins = { refl };
+
+    ghost takes_a_beat = { some_beat };
+
+    fn offer(&mut self, work: VecWork) -> Result<(), VecWork> {
+        if self.queue.is_empty() {
+            self.current = Current::begin(&work, self.current.lanes);
+        }
+        self.queue.try_push_back(work)
+    }
+
+    fn unfinished(&self) -> u32 {
+        self.queue.len() as u32
+    }
+
+    fn work(&self, k: u32) -> &VecWork {
+        self.queue.get(k as usize).unwrap()
+    }
+
+    fn beat(&mut self, cells: &mut Spad, _memory: &mut MainMem) -> bool {
+        let Some(work) = self.queue.front() else {
+            return false;
+        };
+        let work = *work;
+        // A place in the cells is a number of 32 bits.
+        let _ = cells.len();
+        let count = self.current.count(&work);
+        let sum = beat(cells, &work, &self.current, count);
+        match self.current.after(&work, count, sum) {
+            Some(next) => self.current = next,
+            None => {
+                self.queue.pop_front();
+                self.current = first_of(&self.queue, self.current.lanes);
+            }
+        }
+        true
+    }
+}

@@ -1,0 +1,67 @@
+ghost use Rattle.std.specs.Prelude.{◌≡◌, ◌<◌, ◌≤◌, ◌^◌, false, IfOk, length, replicate, slice_set};
+ghost use Rattle.spad_store.specs.Cells.{byte_at, flag_at};
+
+use std::alloc::{AllocError, Global};
+use std::marker::Model;
+
+/// The scratchpad: cells by their place from 0 on, each a byte and the flag beside it.
+#[derive(Debug, Drop)]
+pub struct Spad {
+    cells: Vec<(u8, bool)>,
+}
+
+impl Model for Spad {
+    ghost use Rattle.std.specs.Prelude.{ℕ, Bool, List, length, ◌<◌, ◌^◌};
+
+    ghost Value = { List (ℕ × Bool) };
+
+    ghost view = { λ spad. spad.cells.items };
+
+    ghost invariant = { λ spad. length spad.cells.items < 2 ^ 32 };
+}
+
+impl Spad {
+    /// The most cells that there may be.
+    pub const MOST: u32 = 1_048_576;
+
+    /// A scratchpad of so many cells, whose bytes are 0 and whose flags are clear.
+    pub fn new(alloc: Global, bytes: u32) -> Result<Spad, AllocError>
+        requires some { 0 < bytes }
+        requires few { bytes ≤ Self.MOST }
+        ensures { IfOk result (λ spad. spad ≡ replicate bytes (0, false)) }
+    {
+        let cells = vec![in alloc; (0, false); bytes as usize]?;
+        Ok(Spad { cells })
+    }
+
+    /// The number of cells.
+    pub fn len(&self) -> u32
+        ensures { result ≡ length self.now }
+    {
+        self.cells.len() as u32
+    }
+
+    /// The byte of a cell.
+    pub fn byte(&self, at: u32) -> u8
+        requires { at < length self.now }
+        ensures { result ≡ byte_at self.now at }
+    {
+        self.cells[at as usize].0
+    }
+
+    /// The flag of a cell.
+    pub fn flag(&self, at: u32) -> bool
+        requires { at < length self.now }
+        ensures { result ≡ flag_at self.now at }
+    {
+        self.cells[at as usize].1
+    }
+
+    /// Puts a byte and a flag into a cell, and changes no other.
+    pub fn put(&mut self, at: u32, byte: u8, flag: bool)
+        requires { at < length self.old }
+        ensures { self.new ≡ slice_set self.old at (byte, flag) }
+    {
+        self.cells[at as usize] = (byte, flag);
+    }
+}

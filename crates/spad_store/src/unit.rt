@@ -1,0 +1,134 @@
+ghost use Rattle.std.specs.Prelude.{◌≡◌, ℕ, ◌+◌, ◌<◌, ◌≤◌, ◌↔◌, List, [], ◌∷◌, ◌++◌, length, drop, slice_get, All, IsTrue, IsFalse, IsErr, OnOk, OnErr, IfErr, IfSome};
+ghost use Rattle.spad_store.specs.Cells.{Cell};
+ghost use Rattle.spad_store.specs.Footprint.{LiesBelow, WritesOnly, AgreesOn, ChangesAlike};
+ghost use Rattle.spad_store.specs.Queue.{IsQueue};
+
+use crate::{MainMem, Spad};
+
+/// A unit of the machine: a queue of works, of which the first is done beat by beat.
+///
+/// What a work is, which bytes it reads and writes and what its beats are is for each unit to say.
+/// The laws hold of every unit: a beat changes only bytes of the first work's write footprint, what
+/// it does depends only on the bytes of the read footprint, and it brings the work one beat nearer
+/// to its end.
+pub trait Unit {
+    /// What the unit does.
+    type Work;
+
+    /// How far a work has come.
+    ghost Progress: { Type 0 };
+
+    /// What a unit is made with, which stays as it is.
+    ghost Setting: { Type 0 };
+
+    /// What a unit can be made with.
+    ghost can_have: { Setting → Type 0 };
+
+    /// No count of the work is 0.
+    ghost has_counts: { Self.Work → Type 0 };
+
+    /// The cells and the bytes of memory that a work reads and writes over all its beats.
+    ghost reads_cell: { Self.Work → ℕ → Type 0 };
+
+    ghost writes_cell: { Self.Work → ℕ → Type 0 };
+
+    ghost reads_memory: { Self.Work → ℕ → Type 0 };
+
+    ghost writes_memory: { Self.Work → ℕ → Type 0 };
+
+    /// How many beats a work takes, and how many of them are done.
+    ghost beats: { Setting → Self.Work → ℕ };
+
+    ghost done: { Progress → ℕ };
+
+    ghost not_begun: { Progress };
+
+    /// Cells, memory and progress after the next beat of a work.
+    ghost cells_after: { Setting → Self.Work → Progress → List Cell → List ℕ → List Cell };
+
+    ghost memory_after: { Setting → Self.Work → Progress → List Cell → List ℕ → List ℕ };
+
+    ghost progress_after: { Setting → Self.Work → Progress → List Cell → List ℕ → Progress };
+
+    /// The works of the queue, the current one first, and how many places it has.
+    ghost queue: { Self → List Self.Work };
+
+    ghost places: { Self → ℕ };
+
+    /// How far the queue's first work has come.
+    ghost progress: { Self → Progress };
+
+    /// What the unit was made with.
+    ghost setting: { Self → Setting };
+
+    /// Puts a work last into the queue. A full queue gives it back.
+    fn offer(&mut self, work: Self::Work) -> Result<(), Self::Work>
+        requires { has_counts work }
+
+        ensures full { IsErr result ↔ (length (queue self.old) ≡ places self.old) }
+        ensures given_back { IfErr result (λ back. back ≡ work) }
+        ensures unchanged { OnErr result (self.new ≡ self.old) }
+
+        ensures taken { OnOk result (queue self.new ≡ queue self.old ++ work ∷ []) }
+        ensures same_progress { OnOk result (progress self.new ≡ progress self.old) }
+        ensures same_setting { setting self.new ≡ setting self.old }
+        ensures same_places { places self.new ≡ places self.old };
+
+    /// The number of works in the queue, the current one among them.
+    fn unfinished(&self) -> u32
+        ensures count { result ≡ length (queue self.now) }
+        ensures in_order { IsQueue has_counts (places self.now) (beats (setting self.now)) done not_begun (queue self.now) (progress self.now) }
+        ensures setting { can_have (setting self.now) };
+
+    /// A work of the queue, counted from 0 at its front.
+    fn work(&self, k: u32) -> &Self::Work
+        requires { k < length (queue self.now) }
+        ensures { slice_get (queue self.now) k ≡ Some result.now };
+
+    /// Does the next beat of the queue's first work, and takes the work out of the queue with its
+    /// last beat. False, with nothing changed, where the queue is empty.
+    fn beat(&mut self, cells: &mut Spad, memory: &mut MainMem) -> bool
+        requires cells_inside { All (λ work. LiesBelow (reads_cell work) (writes_cell work) (length cells.old)) (queue self.old) }
+        requires memory_inside { All (λ work. LiesBelow (reads_memory work) (writes_memory work) (length memory.old)) (queue self.old) }
+
+        ensures beaten { IsTrue result ↔ (0 < length (queue self.old)) }
+        ensures idle { IsFalse result → (self.new ≡ self.old) × (cells.new ≡ cells.old) × (memory.new ≡ memory.old) }
+
+        ensures cells { IfSome (slice_get (queue self.old) 0) (λ work. cells.new ≡ cells_after (setting self.old) work (progress self.old) cells.old memory.old) }
+        ensures memory { IfSome (slice_get (queue self.old) 0) (λ work. memory.new ≡ memory_after (setting self.old) work (progress self.old) cells.old memory.old) }
+
+        // Before its last beat the work stays first, and comes on by the beat.
+        ensures goes_on { IfSome (slice_get (queue self.old) 0) (λ work. done (progress self.old) + 1 < beats (setting self.old) work →
+            (queue self.new ≡ queue self.old) × (progress self.new ≡ progress_after (setting self.old) work (progress self.old) cells.old memory.old)) }
+
+        ensures ends { IfSome (slice_get (queue self.old) 0) (λ work. done (progress self.old) + 1 ≡ beats (setting self.old) work →
+            (queue self.new ≡ drop 1 (queue self.old)) × (progress self.new ≡ not_begun)) }
+
+        ensures same_setting { setting self.new ≡ setting self.old }
+        ensures same_places { places self.new ≡ places self.old };
+
+    /// A beat changes only bytes of the work's write footprint.
+    ghost writes_its_footprint: { (setting : Setting) (work : Self.Work) (progress : Progress) (cells : List Cell) (memory : List ℕ) →
+        can_have setting → has_counts work → done progress < beats setting work →
+        LiesBelow (reads_cell work) (writes_cell work) (length cells) → LiesBelow (reads_memory work) (writes_memory work) (length memory) →
+        WritesOnly (writes_cell work) cells (cells_after setting work progress cells memory) × WritesOnly (writes_memory work) memory (memory_after setting work progress cells memory) };
+
+    /// What a beat does, and how far it brings the work, depends only on the bytes of the work's
+    /// read footprint, on the work, on its progress and on what the unit was made with.
+    ghost reads_its_footprint: { (setting : Setting) (work : Self.Work) (progress : Progress) (cells cells' : List Cell) (memory memory' : List ℕ) →
+        can_have setting → has_counts work → done progress < beats setting work →
+        LiesBelow (reads_cell work) (writes_cell work) (length cells) → LiesBelow (reads_memory work) (writes_memory work) (length memory) →
+        AgreesOn (reads_cell work) cells cells' → AgreesOn (reads_memory work) memory memory' →
+        ChangesAlike cells (cells_after setting work progress cells memory) cells' (cells_after setting work progress cells' memory')
+        × ChangesAlike memory (memory_after setting work progress cells memory) memory' (memory_after setting work progress cells' memory')
+        × (progress_after setting work progress cells' memory' ≡ progress_after setting work progress cells memory) };
+
+    /// A beat brings the work one beat nearer to its end.
+    ghost comes_nearer: { (setting : Setting) (work : Self.Work) (progress : Progress) (cells : List Cell) (memory : List ℕ) →
+        done (progress_after setting work progress cells memory) ≡ done progress + 1 };
+
+    /// A work begins with no beat done, and has one to do.
+    ghost begins: { done not_begun ≡ 0 };
+
+    ghost takes_a_beat: { (setting : Setting) (work : Self.Work) → can_have setting → has_counts work → 0 < beats setting work };
+}
