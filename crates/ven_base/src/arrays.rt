@@ -37,7 +37,7 @@ impl Arrays {
     }
 
     /// Appends the pair and gives true. Gives false, with nothing changed, where the name is there.
-    /// `AllocError`: there was no memory, and nothing changed. Fewer than 4,294,967,295 pairs were there before.
+    /// `AllocError`: nothing changed. There are fewer than 4,294,967,295 pairs before.
     pub fn add(&mut self, name: Name, array: Array) -> Result<bool, AllocError>
         requires { length self.old < 2 ^ 32 - 1 }
         ensures added { IfOk result (λ added. IsTrue added → self.new ≡ self.old ++ (name, array) ∷ []) }

@@ -12,16 +12,16 @@ pub fn wrapping_laws()
     ensures products { WrapsProducts }
 {}
 
-/// What holds of operations: the amount of a shift counts modulo the width, bits are those of the number modulo 2 to the
-/// width, and `>>` rounds down.
+/// What holds of operations: the amount of a shift is below the width and congruent to the operand modulo the width, the bits
+/// of a number are below 2 to the width and congruent to it modulo that, and `>>` rounds down.
 pub fn operation_laws()
     ensures amounts { ReducesAmounts }
     ensures bits { ReducesBits }
     ensures rounds_down { RoundsDown }
 {}
 
-/// What holds of reductions: each list of at least one value has one, and no list has two, it is a number of the type where
-/// the values are, and the parts of a list make the whole.
+/// What holds of reductions: each list of at least one value has one, and no list has two; where the values are numbers of
+/// the type, so is the reduction; and the reductions of a list's parts make that of the whole.
 pub fn reduction_laws()
     ensures cuts_sums { CutsSums }
     ensures reaches_bounds { ReachesBounds }
@@ -30,15 +30,16 @@ pub fn reduction_laws()
     ensures in_type { ReducesInType }
 {}
 
-/// What holds of places: a place that goes round n places is below n and congruent modulo n, and a number is one of the n
-/// places exactly where it is from 0 on and below n.
+/// What holds of places: going round n places gives the place below n that is congruent modulo n, and a number is one of the
+/// n places exactly where it is from 0 on and below n.
 pub fn place_laws()
     ensures goes_round { GoesRound }
     ensures finds { FindsPlaces }
 {}
 
-/// What holds of index maps: sources lie in the operand, results have a shape, and the sources of a piece of a section's, a
-/// shift's or a rotation's result are those of one that begins further on. A stretch repeats each element over a block.
+/// What holds of index maps: sources lie in the operand, results have a shape, a stretch repeats each element over a block,
+/// and the sources of a piece of a section's, a shift's or a rotation's result are those of one that begins further on.
+/// Such a section fits.
 pub fn mapping_laws()
     ensures inside { SourcesAreInside }
     ensures shapes { ResultsAreShapes }

@@ -1,4 +1,4 @@
-use Rattle.std.specs.Prelude.{pos, ◌^◌}
+use Rattle.std.specs.Prelude.{◌^◌}
 use Rattle.std.proofs.lemmas.Nat.{pow_pos}
 use Rattle.ven_base.specs.Elem.{width_of, modulus_of}
 use Rattle.ven_base.specs.Operation.{amount_of}
