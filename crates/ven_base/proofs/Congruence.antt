@@ -1,7 +1,7 @@
 -- Numbers that differ by whole multiples of one number: the relation is kept by sums, differences and products.
 use Rattle.std.proofs.Common.{◌≡◌, ℕ, ◌+◌, ◌*◌, ◌/◌, ◌<◌, ◌≤◌, ap, sym, arith}
-use Rattle.std.specs.Prelude.{ℤ, pos, ◌+ℤ◌, ◌-ℤ◌, ◌*ℤ◌, ◌≤ℤ◌, ◌<ℤ◌, neg_ℤ}
-use Rattle.std.specs.Int.{int_rem_euclid}
+use Rattle.std.specs.Prelude.{ℤ, pos, ◌+ℤ◌, ◌-ℤ◌, ◌*ℤ◌, ◌≤ℤ◌, ◌<ℤ◌, neg_ℤ, unsigned_abs}
+use Rattle.std.specs.Int.{int_rem_euclid, int_div_euclid}
 use Rattle.std.proofs.lemmas.Int.{ints}
 use borrow.Author.Differences.{up, down, same_in, same_out, sum_is_lem, neg_is, product_is}
 use native.Mathlib.Nat.{div-add-mod', mod-lt, mul-le-mul_right}
@@ -57,15 +57,38 @@ AreCongruent-mul_left m x x' y c =
 
 -- ---- the remainder
 
--- a number is a whole multiple of the divisor above its remainder
+-- a number is its quotient times the divisor above its remainder
+quotient : (n : ℕ) (x : ℤ) → 0 < n → x ≡ int_rem_euclid x (pos n) +ℤ int_div_euclid x (pos n) *ℤ pos n
+quotient n (pos a) h = omega (arith, same_in, same_out, sum_is_lem, product_is (pos (a / n)) (pos n), div-add-mod' a n)
+quotient n (negsuc a) h = omega (arith, same_in, same_out, sum_is_lem, product_is (negsuc (a / n)) (pos n), div-add-mod' a n, mod-lt a h)
+
+-- so it is congruent to its remainder
 pub euclid : (n : ℕ) (x : ℤ) → 0 < n → AreCongruent n x (int_rem_euclid x (pos n))
-euclid n (pos a) h = (pos (a / n), omega (arith, same_in, same_out, sum_is_lem, product_is (pos (a / n)) (pos n), div-add-mod' a n))
-euclid n (negsuc a) h = (negsuc (a / n), omega (arith, same_in, same_out, sum_is_lem, product_is (negsuc (a / n)) (pos n), div-add-mod' a n, mod-lt a h))
+euclid n x h = (int_div_euclid x (pos n), quotient n x h)
 
 -- a remainder isn't negative, and below the divisor
 pub rem_range : (n : ℕ) (x : ℤ) → 0 < n → (pos 0 ≤ℤ int_rem_euclid x (pos n)) × (int_rem_euclid x (pos n) <ℤ pos n)
 rem_range n (pos a) h = (omega (arith, ints), omega (arith, ints, mod-lt a h))
 rem_range n (negsuc a) h = (omega (arith, ints), omega (arith, ints, mod-lt a h))
+
+-- so as a natural number it is below the divisor, and congruent
+pub rem_below : (n : ℕ) (x : ℤ) → 0 < n → unsigned_abs (int_rem_euclid x (pos n)) < n
+rem_below n (pos a) h = mod-lt a h
+rem_below n (negsuc a) h = omega (arith, mod-lt a h)
+
+pub rem_congruent : (n : ℕ) (x : ℤ) → 0 < n → AreCongruent n x (pos (unsigned_abs (int_rem_euclid x (pos n))))
+rem_congruent n (pos a) h = euclid n (pos a) h
+rem_congruent n (negsuc a) h = euclid n (negsuc a) h
+
+-- the quotient rounds down: times the divisor it is at most the number, and one more of it is above
+pub div_floor : (n : ℕ) (x : ℤ) → 0 < n → ((int_div_euclid x (pos n) *ℤ pos n) ≤ℤ x) × (x <ℤ ((int_div_euclid x (pos n) +ℤ pos 1) *ℤ pos n))
+div_floor n x h =
+    let q = int_div_euclid x (pos n) in
+    let r = int_rem_euclid x (pos n) in
+    let whole : x ≡ r +ℤ q *ℤ pos n = quotient n x h in
+    let range = rem_range n x h in
+    let one = ap (λ a. a * n) (sum_is_lem q (pos 1)) in
+    (omega (arith, ints, same_out, sum_is_lem, product_is q (pos n), whole), omega (arith, ints, same_out, sum_is_lem, product_is q (pos n), product_is (q +ℤ pos 1) (pos n), whole))
 
 -- i lies not below j, where i times m is more than j times m and not by m
 not_below : (m s t i j : ℕ) → s + j * m ≡ t + i * m → t < s + m → j ≤ i

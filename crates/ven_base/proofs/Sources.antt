@@ -4,12 +4,13 @@ use Rattle.std.specs.Prelude.{ℤ, pos, negsuc, ◌+ℤ◌, Bool, true, false, n
 use Rattle.std.proofs.lemmas.Bool.{ltb-true}
 use Rattle.std.proofs.lemmas.Int.{ints}
 use Rattle.std.proofs.lemmas.Nat.{div-mul-add}
-use Rattle.std.proofs.Math.Nat.{div-lt_iff_lt-mul, mod-lt, mul-le-mul, mul-le-mul_left, mul-le-mul_right}
+use Rattle.std.proofs.Math.Nat.{div-lt_iff_lt-mul, mul-le-mul, mul-le-mul_left, mul-le-mul_right}
 use Rattle.ven_base.specs.declared.mapping.Mapping.{Mapping}
 use Rattle.ven_base.specs.declared.mapping.Mapping.TheVariants.{Identity, Shift, Rotate, Section, Stretch}
 use Rattle.ven_base.specs.Extent.{Extent, IsExtent, IsIndex}
 use Rattle.ven_base.specs.Place.{place_in, place_round, IsCut}
 use Rattle.ven_base.specs.Mapping.{source_of, result_of, FitsShape, index_of_both}
+use Rattle.ven_base.proofs.Congruence.{rem_below}
 
 -- a place that is one of the n places is below n
 place_in_below : (n : ℕ) (k : ℤ) → IfSome (place_in n k) (λ p. p < n)
@@ -19,10 +20,6 @@ place_in_below n (pos k) = by (nat_lt k n) refl
     by : (t : Bool) → nat_lt k n ≡ t → IfSome (if t then Some k else None) (λ p. p < n)
     by true e = ltb-true k n e
     by false e = tt
-
-place_round_below : (n : ℕ) (k : ℤ) → 0 < n → place_round n k < n
-place_round_below n (pos a) h = mod-lt a h
-place_round_below n (negsuc a) h = omega (arith, mod-lt a h)
 
 cut_below : (n first count step i : ℕ) → IsCut n first count step → i < count → first + i * step < n
 cut_below n first count step i h below = let l : i ≤ count - 1 = omega arith in omega (arith, mul-le-mul_right step l)
@@ -39,7 +36,7 @@ source_of-inside (Shift dr dc fill) shape i j e f at = both (place_in shape.rows
     both None c p q = tt
     both (Some x) None p q = tt
     both (Some x) (Some y) p q = record { row = p; col = q }
-source_of-inside (Rotate dr dc) shape i j e f at = record { row = place_round_below shape.rows (pos i +ℤ dr) (omega arith); col = place_round_below shape.cols (pos j +ℤ dc) (omega arith) }
+source_of-inside (Rotate dr dc) shape i j e f at = record { row = rem_below shape.rows (pos i +ℤ dr) (omega arith); col = rem_below shape.cols (pos j +ℤ dc) (omega arith) }
 source_of-inside (Section r0 nr sr c0 nc sc) shape i j e f at = record { row = cut_below shape.rows r0 nr sr i f.0 at.row; col = cut_below shape.cols c0 nc sc j f.1 at.col }
 source_of-inside (Stretch kr kc) shape i j e f at = record { row = repeat_below shape.rows kr i f.some_rows at.row; col = repeat_below shape.cols kc j f.some_cols at.col }
 

@@ -7,7 +7,7 @@ use borrow.Author.Differences.{same_in, same_out, sum_is_lem, neg_is, product_is
 use lib.IntN.{*ℤ_comm}
 use Rattle.ven_base.specs.declared.elem.Elem.{Elem}
 use Rattle.ven_base.specs.declared.elem.Elem.TheVariants.{U8, I8, U16, I16, U32, I32}
-use Rattle.ven_base.specs.Elem.{modulus_of, least_of, IsElement}
+use Rattle.ven_base.specs.Elem.{width_of, modulus_of, least_of, IsElement}
 use Rattle.ven_base.specs.Wrap.{AreCongruent, IsWrapped, wrapped}
 use Rattle.ven_base.proofs.Congruence.{AreCongruent-refl, AreCongruent-sym, AreCongruent-trans, AreCongruent-add, AreCongruent-sub, AreCongruent-mul_left, euclid, rem_range, near_same}
 
@@ -18,6 +18,14 @@ modulus_pos U16 = lit< tt
 modulus_pos I16 = lit< tt
 modulus_pos U32 = lit< tt
 modulus_pos I32 = lit< tt
+
+pub width_pos : (elem : Elem) → 0 < width_of elem
+width_pos U8 = lit< tt
+width_pos I8 = lit< tt
+width_pos U16 = lit< tt
+width_pos I16 = lit< tt
+width_pos U32 = lit< tt
+width_pos I32 = lit< tt
 
 -- 0 is a number of each type
 pub zero_in : (elem : Elem) → IsElement elem (pos 0)

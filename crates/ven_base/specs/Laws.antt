@@ -1,15 +1,17 @@
 -- What holds of the definitions, for every number, list, shape and index.
-use Rattle.std.specs.Prelude.{◌≡◌, ◌↔◌, ℕ, ℤ, pos, ◌+◌, ◌*◌, ◌<◌, ◌≤◌, ◌+ℤ◌, ◌-ℤ◌, ◌*ℤ◌, List, ◌∷◌, ◌++◌, All, IfSome, Some}
+use Rattle.std.specs.Prelude.{◌≡◌, ◌↔◌, ℕ, ℤ, pos, ◌+◌, ◌*◌, ◌^◌, ◌<◌, ◌≤◌, ◌+ℤ◌, ◌-ℤ◌, ◌*ℤ◌, ◌≤ℤ◌, ◌<ℤ◌, List, ◌∷◌, ◌++◌, All, IfSome, Some}
 use Rattle.ven_base.specs.declared.elem.Elem.{Elem}
 use Rattle.ven_base.specs.declared.ops.Fold.{Fold}
+use Rattle.ven_base.specs.declared.ops.Op2.TheVariants.{Shr}
 use Rattle.ven_base.specs.declared.mapping.Mapping.{Mapping}
 use Rattle.ven_base.specs.declared.mapping.Mapping.TheVariants.{Shift, Rotate, Section, Stretch}
-use Rattle.ven_base.specs.Elem.{IsElement}
-use Rattle.ven_base.specs.Wrap.{IsWrapped, wrapped}
+use Rattle.ven_base.specs.Elem.{width_of, modulus_of, IsElement}
+use Rattle.ven_base.specs.Wrap.{AreCongruent, IsWrapped, wrapped}
+use Rattle.ven_base.specs.Operation.{amount_of, bits_of, exact2}
 use Rattle.ven_base.specs.Folding.{total_of, folded, IsFolded, joined}
 use Rattle.ven_base.specs.Extent.{Extent, IsExtent, IsIndex}
 use Rattle.ven_base.specs.Mapping.{source_of, result_of, FitsShape}
-use Rattle.ven_base.specs.Place.{IsCut}
+use Rattle.ven_base.specs.Place.{place_in, place_round, IsCut}
 
 -- ---- wrapping
 
@@ -34,6 +36,22 @@ WrapsDifferences = (elem : Elem) (a b : ℤ) → wrapped elem (wrapped elem a -�
 abbrev pub WrapsProducts : Type 0
 WrapsProducts = (elem : Elem) (a b : ℤ) → wrapped elem (wrapped elem a *ℤ wrapped elem b) ≡ wrapped elem (a *ℤ b)
 
+-- ---- operations
+
+-- the amount of a shift is the number below the width that is congruent to the operand modulo the width
+abbrev pub ReducesAmounts : Type 0
+ReducesAmounts = (elem : Elem) (y : ℤ) → (amount_of elem y < width_of elem) × AreCongruent (width_of elem) y (pos (amount_of elem y))
+
+-- the bits of a number are the number below 2 to the width that is congruent to it modulo 2 to the width
+abbrev pub ReducesBits : Type 0
+ReducesBits = (elem : Elem) (x : ℤ) → (bits_of elem x < modulus_of elem) × AreCongruent (modulus_of elem) x (pos (bits_of elem x))
+
+-- a shift to the right rounds down: its result times the power of two is at most x, and one more times the power is above x
+abbrev pub RoundsDown : Type 0
+RoundsDown = (elem : Elem) (x y : ℤ) →
+    let power = pos (2 ^ amount_of elem y) in
+    ((exact2 Shr elem x y *ℤ power) ≤ℤ x) × (x <ℤ ((exact2 Shr elem x y +ℤ pos 1) *ℤ power))
+
 -- ---- reductions
 
 -- the wrapped sum of a list doesn't depend on how the list is cut
@@ -55,6 +73,16 @@ JoinsReductions = (fold : Fold) (elem : Elem) (xs ys : List ℤ) (r s : ℤ) →
 -- a reduction of numbers of a type is a number of it
 abbrev pub ReducesInType : Type 0
 ReducesInType = (fold : Fold) (elem : Elem) (xs : List ℤ) (r : ℤ) → All (IsElement elem) xs → IsFolded fold elem xs r → IsElement elem r
+
+-- ---- places
+
+-- going round n places gives the place below n that is congruent to k modulo n
+abbrev pub GoesRound : Type 0
+GoesRound = (n : ℕ) (k : ℤ) → 0 < n → (place_round n k < n) × AreCongruent n k (pos (place_round n k))
+
+-- a number is one of the n places exactly where it is a number from 0 on, below n
+abbrev pub FindsPlaces : Type 0
+FindsPlaces = (n : ℕ) (k : ℤ) (q : ℕ) → (place_in n k ≡ Some q) ↔ ((k ≡ pos q) × (q < n))
 
 -- ---- index maps
 

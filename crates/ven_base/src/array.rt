@@ -43,7 +43,7 @@ impl Array {
         })
     }
 
-    /// The value in row `i` and column `j`, each counted from 0.
+    /// The value in row `i` and column `j`, each counted from 0, which lie in the shape.
     pub fn value(&self, i: u32, j: u32) -> i64
         requires { IsIndex self.now.shape i j }
         ensures value { result ≡ value_at self.now i j }

@@ -36,7 +36,8 @@ impl Arrays {
         }
     }
 
-    /// Appends the pair, and says whether it did: where the name is there already nothing changes.
+    /// Appends the pair and gives true. Gives false, with nothing changed, where the name is there.
+    /// `AllocError`: nothing changed. There are fewer than 4,294,967,295 pairs before.
     pub fn add(&mut self, name: Name, array: Array) -> Result<bool, AllocError>
         requires { length self.old < 2 ^ 32 - 1 }
         ensures added { IfOk result (λ added. IsTrue added → self.new ≡ self.old ++ (name, array) ∷ []) }
@@ -53,7 +54,7 @@ impl Arrays {
         Ok(true)
     }
 
-    /// The array with this name.
+    /// The array with this name: `None` exactly where no pair has the name.
     pub fn get(&self, name: &Name) -> Option<&Array>
         ensures found { IsSome result ↔ Contains (names_of self.now) name.now }
         ensures value { option_copied result ≡ array_named self.now name.now }
@@ -77,7 +78,7 @@ impl Arrays {
         self.pairs.is_empty()
     }
 
-    /// The name of pair `k`, from 0.
+    /// The name of pair `k`, which counts from 0 and is below `len`.
     pub fn name(&self, k: u32) -> &Name
         requires { k < length self.now }
         ensures { slice_get (names_of self.now) k ≡ Some result.now }
@@ -85,7 +86,7 @@ impl Arrays {
         self.pair(k).0
     }
 
-    /// The array of pair `k`, from 0.
+    /// The array of pair `k`, which counts from 0 and is below `len`.
     pub fn array(&self, k: u32) -> &Array
         requires { k < length self.now }
         ensures { slice_get (arrays_of self.now) k ≡ Some result.now }

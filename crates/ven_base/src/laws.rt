@@ -1,5 +1,5 @@
 //! Laws of the definitions, each the contract of a function that does nothing.
-ghost use Rattle.ven_base.specs.Laws.{WrapsToOne, KeepsElements, WrapsOnce, WrapsSums, WrapsDifferences, WrapsProducts, CutsSums, ReachesBounds, HasOneReduction, JoinsReductions, ReducesInType, SourcesAreInside, ResultsAreShapes, CutsSections, FitsPieces, CutsShifts, CutsRotations, RepeatsBlocks};
+ghost use Rattle.ven_base.specs.Laws.{WrapsToOne, KeepsElements, WrapsOnce, WrapsSums, WrapsDifferences, WrapsProducts, ReducesAmounts, ReducesBits, RoundsDown, CutsSums, ReachesBounds, HasOneReduction, JoinsReductions, ReducesInType, GoesRound, FindsPlaces, SourcesAreInside, ResultsAreShapes, CutsSections, FitsPieces, CutsShifts, CutsRotations, RepeatsBlocks};
 
 /// What holds of wrapping: it is a function, it keeps the type's numbers, and sums, differences and products may be
 /// wrapped at each step or once.
@@ -12,7 +12,16 @@ pub fn wrapping_laws()
     ensures products { WrapsProducts }
 {}
 
-/// What holds of reductions: each list has one, which is reached and is in the type, and the parts of a list make the whole.
+/// What holds of operations: the amount of a shift is below the width and congruent to the operand modulo the width, the bits
+/// of a number are below 2 to the width and congruent to it modulo that, and `>>` rounds down.
+pub fn operation_laws()
+    ensures amounts { ReducesAmounts }
+    ensures bits { ReducesBits }
+    ensures rounds_down { RoundsDown }
+{}
+
+/// What holds of reductions: each list of at least one value has one, and no list has two; where the values are numbers of
+/// the type, so is the reduction; and the reductions of a list's parts make that of the whole.
 pub fn reduction_laws()
     ensures cuts_sums { CutsSums }
     ensures reaches_bounds { ReachesBounds }
@@ -21,7 +30,16 @@ pub fn reduction_laws()
     ensures in_type { ReducesInType }
 {}
 
-/// What holds of index maps: sources lie in the operand, and a piece of a map's result is the result of such a map.
+/// What holds of places: going round n places gives the place below n that is congruent modulo n, and a number is one of the
+/// n places exactly where it is from 0 on and below n.
+pub fn place_laws()
+    ensures goes_round { GoesRound }
+    ensures finds { FindsPlaces }
+{}
+
+/// What holds of index maps: sources lie in the operand, results have a shape, a stretch repeats each element over a block,
+/// and the sources of a piece of a section's, a shift's or a rotation's result are those of one that begins further on.
+/// Such a section fits.
 pub fn mapping_laws()
     ensures inside { SourcesAreInside }
     ensures shapes { ResultsAreShapes }

@@ -1,7 +1,7 @@
 //! Index maps: which element of its operand an element of the result is.
 ghost use Rattle.std.specs.Prelude.{◌≡◌, ◌↔◌, ◌<◌, ◌≤◌, ◌*◌, pos, ◌+ℤ◌, IsTrue};
 ghost use Rattle.ven_base.specs.Extent.{element_limit};
-ghost use Rattle.ven_base.specs.Place.{IsMove, IsCut, place_in as place_in_lem, place_round as place_round_lem};
+ghost use Rattle.ven_base.specs.Place.{IsMove, IsCut, place_in as place_inside, place_round as place_around};
 
 use crate::{ELEMENT_LIMIT, Shape};
 
@@ -140,7 +140,7 @@ fn moved(place: u32, d: i64) -> i64
 
 /// This place, where it is one of the n places from 0 on.
 fn place_in(n: u32, k: i64) -> Option<u32>
-    ensures { result ≡ place_in_lem n k }
+    ensures { result ≡ place_inside n k }
 {
     if k < 0 || k >= i64::from(n) {
         None
@@ -152,7 +152,7 @@ fn place_in(n: u32, k: i64) -> Option<u32>
 /// The place, going round the n places.
 fn place_round(n: u32, k: i64) -> u32
     requires { 0 < n }
-    ensures { result ≡ place_round_lem n k }
+    ensures { result ≡ place_around n k }
 {
     k.rem_euclid(i64::from(n)) as u32
 }

@@ -7,7 +7,7 @@ ghost use Rattle.std.specs.Cmp.Lexicographic.{pointwise, nat_list_eq_equiv};
 ghost use Rattle.std.specs.Cmp.Rules.{hashing};
 ghost use Rattle.std.specs.Hash as fed;
 ghost use Rattle.std.proofs.Common.{rules};
-ghost use Rattle.ven_base.specs.Name.{is_name_start as is_start_lem, is_digit as is_digit_lem, is_name_byte as is_byte_lem, IsNameToken, IsReserved, IsName};
+ghost use Rattle.ven_base.specs.Name.{is_name_start as begins_name, is_digit as is_decimal_digit, is_name_byte as goes_on_in_name, IsNameToken, IsReserved, IsName};
 
 use std::fmt;
 use std::hash::{Hash, Hasher};
@@ -76,21 +76,21 @@ impl Name {
 
 /// Whether a name token may begin with this byte: an ASCII letter or `_`.
 pub fn is_name_start(byte: u8) -> bool
-    ensures { result ≡ is_start_lem byte }
+    ensures { result ≡ begins_name byte }
 {
     matches!(byte, b'A'..=b'Z' | b'a'..=b'z' | b'_')
 }
 
 /// Whether the byte is a decimal digit.
 pub fn is_digit(byte: u8) -> bool
-    ensures { result ≡ is_digit_lem byte }
+    ensures { result ≡ is_decimal_digit byte }
 {
     matches!(byte, b'0'..=b'9')
 }
 
 /// Whether a name token may go on with this byte: an ASCII letter, a decimal digit or `_`.
 pub fn is_name_byte(byte: u8) -> bool
-    ensures { result ≡ is_byte_lem byte }
+    ensures { result ≡ goes_on_in_name byte }
 {
     is_name_start(byte) || is_digit(byte)
 }
@@ -106,7 +106,7 @@ pub fn is_name_token(bytes: &[u8]) -> bool
 }
 
 fn are_name_bytes(bytes: &[u8]) -> bool
-    ensures { result ≡ list_all is_byte_lem bytes.now }
+    ensures { result ≡ list_all goes_on_in_name bytes.now }
 {
     bytes.iter().all(|byte| is_name_byte(*byte))
 }
