@@ -4,3 +4,4 @@ pub mod Places
 pub mod Groups
 pub mod Beats
 pub mod Queues
+pub mod Finishing

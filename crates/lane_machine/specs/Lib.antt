@@ -4,3 +4,4 @@ pub mod Group
 pub mod State
 pub mod Lanes
 pub mod Laws
+pub mod AllBeats

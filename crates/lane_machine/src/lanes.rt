@@ -1,7 +1,9 @@
-ghost use Rattle.std.specs.Prelude.{◌≡◌, ◌<◌, ◌≤◌, [], All, MatchOption, IfOk, slice_get};
-ghost use Rattle.venice_isa.specs.Whole.{HasCounts};
+ghost use Rattle.std.specs.Prelude.{◌≡◌, ◌<◌, ◌≤◌, [], length, drop, All, MatchOption, IfSome, IfOk, slice_get};
+ghost use Rattle.venice_isa.specs.Whole.{HasCounts, IsSimple, IsWhole};
 ghost use Rattle.lane_machine.specs.Current.{IsAt, IsIdle, progress_of};
-ghost use Rattle.venice_isa.specs.Beat.{not_begun};
+ghost use Rattle.venice_isa.specs.Beat.{not_begun, vector_beats};
+ghost use Rattle.lane_machine.specs.Group.{IsInside};
+ghost use Rattle.lane_machine.specs.AllBeats.{all_beats};
 
 use crate::current::Current;
 use crate::group::beat;
@@ -45,6 +47,37 @@ impl Lanes {
             queue,
             current: Current::idle(lanes),
         })
+    }
+
+    /// Does all beats of the queue's first work, which has not begun, and gives their number. The
+    /// beats of a simple work together are its whole effect, for each number of lanes.
+    pub fn finish(&mut self, cells: &mut Spad, memory: &mut MainMem) -> u64
+        requires some { 0 < length self.old.works }
+        requires begins { self.old.progress ≡ not_begun }
+        requires inside { All (λ work. IsInside work (length cells.old)) self.old.works }
+        ensures count { IfSome (slice_get self.old.works 0) (λ work. result ≡ vector_beats work self.old.lanes) }
+        ensures cells { IfSome (slice_get self.old.works 0) (λ work. cells.new ≡ all_beats work self.old.lanes cells.old) }
+        ensures whole { IfSome (slice_get self.old.works 0) (λ work. IsSimple work → IsWhole work cells.old cells.new) }
+        ensures memory { memory.new ≡ memory.old }
+        ensures queue { self.new ≡ record self.old { works = drop 1 self.old.works } }
+    {
+        let beats = self.first_beats();
+        for _k in 0..beats {
+            self.beat(cells, memory);
+        }
+        beats
+    }
+
+    /// How many beats the queue's first work takes, or 0.
+    fn first_beats(&self) -> u64
+        ensures some_lanes { 0 < self.now.lanes }
+        ensures first { IfSome (slice_get self.now.works 0) (λ work. (result ≡ vector_beats work self.now.lanes) × (self.now.progress.done < result)) }
+        ensures counts { IfSome (slice_get self.now.works 0) HasCounts }
+    {
+        match self.queue.front() {
+            Some(work) => work.beats(self.current.lanes),
+            None => 0,
+        }
     }
 }
 
