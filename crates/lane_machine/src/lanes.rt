@@ -58,6 +58,7 @@ impl Lanes {
         ensures count { IfSome (slice_get self.old.works 0) (λ work. result ≡ vector_beats work self.old.lanes) }
         ensures cells { IfSome (slice_get self.old.works 0) (λ work. cells.new ≡ all_beats work self.old.lanes cells.old) }
         ensures whole { IfSome (slice_get self.old.works 0) (λ work. IsSimple work → IsWhole work cells.old cells.new) }
+        ensures length { length cells.new ≡ length cells.old }
         ensures memory { memory.new ≡ memory.old }
         ensures queue { self.new ≡ record self.old { works = drop 1 self.old.works } }
     {

@@ -15,3 +15,6 @@ mod outcome;
 mod walk;
 
 pub use lanes::Lanes;
+
+#[cfg(test)]
+mod tests;

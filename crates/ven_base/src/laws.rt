@@ -12,8 +12,8 @@ pub fn wrapping_laws()
     ensures products { WrapsProducts }
 {}
 
-/// What holds of operations: the amount of a shift is below the width and congruent to the operand modulo the width, the
-/// bits of a number are below 2 to the width and congruent to it modulo that, and `>>` rounds down.
+/// What holds of operations: the amount of a shift is below the width and congruent to the operand modulo the width, the bits
+/// of a number are below 2 to the width and congruent to it modulo that, and `>>` rounds down.
 pub fn operation_laws()
     ensures amounts { ReducesAmounts }
     ensures bits { ReducesBits }

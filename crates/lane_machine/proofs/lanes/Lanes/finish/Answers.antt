@@ -72,6 +72,13 @@ returns-clause-whole c =
     let inside : IsInside work (length c.args.cells.now) = All-first (λ work. IsInside work (length c.args.cells.now)) works work c.requires.inside first.1 in
     rw (first.1, over.cells_are) (whole_by_beats work c.args.self.now.lanes c.args.cells.now c.first_beats-beats.ensures.some_lanes inside)
 
+pub returns-clause-length : goal.returns-clause-length
+returns-clause-length c =
+    let works = c.args.self.now.works in
+    let first = some_first works c.requires.some in
+    let so_far = rw first.1 at c.loop-k.invariant in
+    so_far.same_length
+
 pub returns-clause-memory : goal.returns-clause-memory
 returns-clause-memory c =
     let works = c.args.self.now.works in

@@ -1,0 +1,361 @@
+//! Instructions run on a small scratchpad: A stands at cell 0, B at 16 and the destination at 32.
+ghost use Rattle.std.specs.Prelude.{◌≡◌, ◌+◌, ◌<◌, ◌≤◌, IsTrue, IsFalse, length};
+ghost use Rattle.venice_isa.specs.Region.{LiesBelow};
+ghost use Rattle.venice_isa.specs.Footprint.{source_a, source_b};
+ghost use Rattle.venice_isa.specs.Mode.{uses_b};
+ghost use Rattle.venice_isa.specs.Whole.{HasCounts};
+ghost use Rattle.lane_machine.specs.Group.{IsInside};
+
+use crate::Lanes;
+use spad_store::{MainMem, Spad, Unit};
+use std::alloc::{AllocError, Global};
+use std::test::Fail;
+use ven_base::Elem;
+use venice_isa::{VecKind, VecOp, VecWork};
+
+/// Four cells.
+type Four = [(u8, bool); 4];
+
+/// Four cells whose flags are clear.
+fn plain(bytes: [u8; 4]) -> Four {
+    [
+        (bytes[0], false),
+        (bytes[1], false),
+        (bytes[2], false),
+        (bytes[3], false),
+    ]
+}
+
+fn put(spad: &mut Spad, at: u32, cells: Four)
+    requires inside { at + 4 ≤ length spad.old }
+    requires small { length spad.old < 100 }
+    ensures { length spad.new ≡ length spad.old }
+{
+    spad.put(at, cells[0].0, cells[0].1);
+    spad.put(at + 1, cells[1].0, cells[1].1);
+    spad.put(at + 2, cells[2].0, cells[2].1);
+    spad.put(at + 3, cells[3].0, cells[3].1);
+}
+
+fn four(spad: &Spad, at: u32) -> Four
+    requires inside { at + 4 ≤ length spad.now }
+    requires small { length spad.now < 100 }
+{
+    [
+        (spad.byte(at), spad.flag(at)),
+        (spad.byte(at + 1), spad.flag(at + 1)),
+        (spad.byte(at + 2), spad.flag(at + 2)),
+        (spad.byte(at + 3), spad.flag(at + 3)),
+    ]
+}
+
+/// Whether A's elements, where they stand in cells, lie below the end.
+fn a_lies_below(work: &VecWork, end: u32) -> bool
+    ensures { IsTrue result → IsFalse work.now.kind.a_scalar → LiesBelow (source_a work.now) end }
+{
+    work.kind.a_scalar || work.source_a().lies_below(end)
+}
+
+/// Whether B's elements, where there are any, lie below the end.
+fn b_lies_below(work: &VecWork, end: u32) -> bool
+    ensures { IsTrue result → IsTrue (uses_b work.now.kind.op) → IsFalse work.now.kind.b_scalar → LiesBelow (source_b work.now) end }
+{
+    !work.kind.op.uses_b() || work.kind.b_scalar || work.source_b().lies_below(end)
+}
+
+/// Whether every cell that the instruction reads or writes lies below the end.
+fn lies_below(work: &VecWork, end: u32) -> bool
+    ensures { IsTrue result → IsInside work.now end }
+{
+    if !a_lies_below(work, end) {
+        return false;
+    }
+    if !b_lies_below(work, end) {
+        return false;
+    }
+    work.destination().lies_below(end)
+}
+
+/// Does a work by beats, and gives their number.
+fn run(alloc: Global, lanes: u32, work: VecWork, cells: &mut Spad) -> Result<u64, AllocError>
+    requires some_lanes { 0 < lanes }
+    requires few_lanes { lanes ≤ 4 }
+    requires counts { HasCounts work }
+    requires inside { IsInside work (length cells.old) }
+    ensures { length cells.new ≡ length cells.old }
+{
+    let mut memory = MainMem::new(alloc, 0)?;
+    let mut unit = Lanes::new(alloc, lanes)?;
+    let _ = unit.offer(work);
+    Ok(unit.finish(cells, &mut memory))
+}
+
+/// A vector instruction at the operands' cells, whose rows stand 8 cells apart. A scalar's number
+/// takes the place of its cell.
+fn instruction(kind: VecKind, vl: u32, rows: u32, a: u32, b: u32) -> VecWork
+    ensures vl { result.vl ≡ vl }
+    ensures rows { result.rows ≡ rows }
+{
+    VecWork {
+        kind,
+        vl,
+        rows,
+        dst: 32,
+        a: if kind.a_scalar { a } else { 0 },
+        b: if kind.b_scalar { b } else { 16 },
+        dst_step: 8,
+        a_step: 8,
+        b_step: 8,
+    }
+}
+
+/// A row of the table: the kind, the elements, A's and B's numbers where they are scalars, the cells
+/// of A, of B and of the destination before, and those of the destination after.
+struct Row {
+    op: VecOp,
+    elem: Elem,
+    from: Elem,
+    scalars: (bool, bool),
+    acc: bool,
+    vl: u32,
+    numbers: (u32, u32),
+    a: Four,
+    b: Four,
+    before: Four,
+    after: Four,
+}
+
+const ZERO: Four = [(0, false), (0, false), (0, false), (0, false)];
+
+const ROWS: [Row; 9] = [
+    Row {
+        op: VecOp::Shl,
+        elem: Elem::U8,
+        from: Elem::U8,
+        scalars: (false, false),
+        acc: false,
+        vl: 2,
+        numbers: (0, 0),
+        a: [(129, false), (1, false), (0, false), (0, false)],
+        b: [(9, false), (8, false), (0, false), (0, false)],
+        before: ZERO,
+        after: [(2, false), (1, false), (0, false), (0, false)],
+    },
+    Row {
+        op: VecOp::Shr,
+        elem: Elem::I8,
+        from: Elem::I8,
+        scalars: (false, true),
+        acc: false,
+        vl: 1,
+        numbers: (0, 1),
+        a: [(128, false), (0, false), (0, false), (0, false)],
+        b: ZERO,
+        before: ZERO,
+        after: [(192, false), (0, false), (0, false), (0, false)],
+    },
+    Row {
+        op: VecOp::Mul,
+        elem: Elem::U16,
+        from: Elem::U16,
+        scalars: (false, true),
+        acc: false,
+        vl: 1,
+        numbers: (0, 300),
+        a: [(44, false), (1, false), (0, false), (0, false)],
+        b: ZERO,
+        before: ZERO,
+        after: [(144, false), (95, false), (0, false), (0, false)],
+    },
+    // 200 and 100 add up to 300, which is 44 in a byte.
+    Row {
+        op: VecOp::Add,
+        elem: Elem::U8,
+        from: Elem::U8,
+        scalars: (false, true),
+        acc: true,
+        vl: 2,
+        numbers: (0, 0),
+        a: [(200, false), (100, false), (0, false), (0, false)],
+        b: ZERO,
+        before: [(9, true), (9, true), (9, true), (9, true)],
+        after: [(44, false), (9, true), (9, true), (9, true)],
+    },
+    // An add clears the flags that were set.
+    Row {
+        op: VecOp::Add,
+        elem: Elem::U8,
+        from: Elem::U8,
+        scalars: (false, true),
+        acc: false,
+        vl: 3,
+        numbers: (0, 1),
+        a: [(1, true), (2, false), (255, true), (4, false)],
+        b: ZERO,
+        before: [(7, true), (7, true), (7, true), (7, true)],
+        after: [(2, false), (3, false), (0, false), (7, true)],
+    },
+    // A comparison that answers 1 sets the flag of each byte of its element.
+    Row {
+        op: VecOp::Eq,
+        elem: Elem::U16,
+        from: Elem::U16,
+        scalars: (false, true),
+        acc: false,
+        vl: 2,
+        numbers: (0, 7),
+        a: [(7, false), (0, false), (8, false), (0, false)],
+        b: ZERO,
+        before: ZERO,
+        after: [(1, true), (0, true), (0, false), (0, false)],
+    },
+    // A conditional move looks at the flag of an element's first byte.
+    Row {
+        op: VecOp::Cmov,
+        elem: Elem::U16,
+        from: Elem::U16,
+        scalars: (true, false),
+        acc: false,
+        vl: 2,
+        numbers: (9, 0),
+        a: ZERO,
+        b: [(1, true), (0, true), (0, false), (0, false)],
+        before: [(5, false), (0, false), (6, false), (0, false)],
+        after: [(9, false), (0, false), (6, false), (0, false)],
+    },
+    Row {
+        op: VecOp::Cmov,
+        elem: Elem::U16,
+        from: Elem::U16,
+        scalars: (true, false),
+        acc: false,
+        vl: 2,
+        numbers: (9, 0),
+        a: ZERO,
+        b: [(1, false), (0, true), (0, true), (0, false)],
+        before: [(5, true), (0, true), (6, true), (0, true)],
+        after: [(5, true), (0, true), (9, false), (0, false)],
+    },
+    Row {
+        op: VecOp::Cast,
+        elem: Elem::U16,
+        from: Elem::I8,
+        scalars: (false, false),
+        acc: false,
+        vl: 1,
+        numbers: (0, 0),
+        a: [(255, false), (0, false), (0, false), (0, false)],
+        b: ZERO,
+        before: ZERO,
+        after: [(255, false), (255, false), (0, false), (0, false)],
+    },
+];
+
+#[test]
+fn instructions_leave_their_results_on_any_lanes(rt: HostRuntime) -> Result<(), Fail> {
+    for row in &ROWS {
+        let kind = VecKind::new(
+            row.op,
+            row.elem,
+            row.from,
+            row.scalars.0,
+            row.scalars.1,
+            row.acc,
+        );
+        let kind = kind.expect(&rt, "each row's mode is one of its operation's");
+        let work = instruction(kind, row.vl, 1, row.numbers.0, row.numbers.1);
+        assert!(rt; 0 < work.vl && 0 < work.rows && lies_below(&work, 48));
+        for lanes in 1..5 {
+            let mut spad = Spad::new(rt.alloc(), 48)?;
+            put(&mut spad, 0, row.a);
+            put(&mut spad, 16, row.b);
+            put(&mut spad, 32, row.before);
+            run(rt.alloc(), lanes, work, &mut spad)?;
+            assert_eq!(rt; four(&spad, 32), row.after, "{:?} on {lanes} lanes", row.op);
+        }
+    }
+    Ok(())
+}
+
+fn plain_kind(op: VecOp, elem: Elem, from: Elem) -> Option<VecKind> {
+    VecKind::new(op, elem, from, false, op == VecOp::Add, false)
+}
+
+#[test]
+fn a_row_takes_beats_of_its_own(rt: HostRuntime) -> Result<(), Fail> {
+    let table = [
+        (VecOp::Mov, Elem::U8, Elem::U8, 7, 2, 1, 4),
+        (VecOp::Mov, Elem::U8, Elem::U8, 7, 2, 2, 2),
+        (VecOp::Mov, Elem::U32, Elem::U32, 4, 1, 1, 4),
+        (VecOp::Mov, Elem::U32, Elem::U32, 4, 1, 4, 1),
+        (VecOp::Cast, Elem::U8, Elem::I16, 5, 2, 1, 6),
+    ];
+    for (op, elem, from, vl, rows, lanes, beats) in table {
+        let kind = plain_kind(op, elem, from).expect(&rt, "each operation has its plain mode");
+        let work = instruction(kind, vl, rows, 0, 0);
+        assert!(rt; 0 < work.vl && 0 < work.rows && lies_below(&work, 48));
+        assert!(rt; 0 < lanes && lanes <= 4);
+        let mut spad = Spad::new(rt.alloc(), 48)?;
+        assert_eq!(rt;
+            run(rt.alloc(), lanes, work, &mut spad)?,
+            beats,
+            "{op:?} {vl} {lanes}"
+        );
+    }
+    Ok(())
+}
+
+// Three numbers get 1 more than the number before them, which a beat of one element has just
+// written, and a beat of three has not.
+#[test]
+fn a_work_that_reads_what_it_writes_depends_on_the_lanes(rt: HostRuntime) -> Result<(), Fail> {
+    let kind = plain_kind(VecOp::Add, Elem::U32, Elem::U32).expect(&rt, "an add of a scalar");
+    let work = VecWork {
+        dst: 4,
+        ..instruction(kind, 3, 1, 0, 1)
+    };
+    assert!(rt; 0 < work.vl && 0 < work.rows && lies_below(&work, 16));
+    for (lanes, numbers) in [(1, [5, 6, 7, 8]), (4, [5, 6, 1, 1])] {
+        assert!(rt; 0 < lanes && lanes <= 4);
+        let mut spad = Spad::new(rt.alloc(), 16)?;
+        put(&mut spad, 0, plain([5, 0, 0, 0]));
+        run(rt.alloc(), lanes, work, &mut spad)?;
+        assert_eq!(rt; four(&spad, 0), plain([numbers[0], 0, 0, 0]));
+        assert_eq!(rt; four(&spad, 4), plain([numbers[1], 0, 0, 0]));
+        assert_eq!(rt; four(&spad, 8), plain([numbers[2], 0, 0, 0]));
+        assert_eq!(rt; four(&spad, 12), plain([numbers[3], 0, 0, 0]));
+    }
+    Ok(())
+}
+
+/// The number of a unit's works, through its trait.
+fn works_of<U: Unit>(unit: &U) -> u32
+    ensures { result ≡ length (U.queue unit.now) }
+{
+    unit.unfinished()
+}
+
+#[test]
+fn the_queue_has_four_places(rt: HostRuntime) -> Result<(), Fail> {
+    let kind = plain_kind(VecOp::Mov, Elem::U8, Elem::U8).expect(&rt, "a move");
+    let mut unit = Lanes::new(rt.alloc(), 2)?;
+    for vl in 1..5 {
+        assert_eq!(rt; unit.offer(instruction(kind, vl, 1, 0, 0)), Ok(()));
+    }
+    let fifth = instruction(kind, 5, 1, 0, 0);
+    assert_eq!(rt; unit.offer(fifth), Err(fifth));
+    assert_eq!(rt; works_of(&unit), 4);
+    assert_eq!(rt; unit.work(3).vl, 4);
+    Ok(())
+}
+
+#[test]
+fn nothing_beats_in_an_empty_queue(rt: HostRuntime) -> Result<(), Fail> {
+    let mut spad = Spad::new(rt.alloc(), 4)?;
+    let mut memory = MainMem::new(rt.alloc(), 0)?;
+    let mut unit = Lanes::new(rt.alloc(), 3)?;
+    put(&mut spad, 0, plain([1, 2, 3, 4]));
+    assert!(rt; !unit.beat(&mut spad, &mut memory));
+    assert_eq!(rt; four(&spad, 0), plain([1, 2, 3, 4]));
+    Ok(())
+}
