@@ -1,13 +1,11 @@
 -- A work's beats, one after another, are all its beats.
-use Rattle.std.proofs.Common.{◌≡◌, ℕ, zero, suc, ◌+◌, ◌-◌, ◌<◌, ◌≤◌, ap, sym, ◌∙◌, refl, subst, arith, List, [], ◌∷◌, length, drop, Some, inl, inr}
-use Rattle.std.specs.Prelude.{All, IfSome, slice_get}
-use Rattle.std.proofs.lemmas.Bool.{cases_eq}
+use Rattle.std.proofs.Common.{◌≡◌, ℕ, suc, ◌+◌, ◌-◌, ◌<◌, ◌≤◌, ap, sym, ◌∙◌, refl, arith, List, [], ◌∷◌, length, drop, Some}
+use Rattle.std.specs.Prelude.{slice_get}
 use Rattle.venice_isa.specs.declared.work.VecWork.{VecWork}
 use Rattle.venice_isa.specs.declared.issue.Issue.TheVariants.{Vector}
-use Rattle.venice_isa.specs.Cell.{Cell, Store}
-use Rattle.venice_isa.specs.Whole.{HasCounts, IsSimple, IsWhole}
+use Rattle.venice_isa.specs.Cell.{Cell}
+use Rattle.venice_isa.specs.Whole.{IsSimple, IsWhole}
 use Rattle.venice_isa.specs.Beat.{Progress, not_begun, vector_beats, vector_beat, progress_after, after_beats, after_all_beats}
-use Rattle.venice_isa.proofs.OneBeat.{beat_keeps}
 use Rattle.venice_isa.proofs.Beats.{beats_do_it}
 use Rattle.lane_machine.specs.State.{State}
 use Rattle.lane_machine.specs.Group.{IsInside}

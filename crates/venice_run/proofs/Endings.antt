@@ -114,25 +114,28 @@ module _ (words : List (List ℕ)) (held : Option Held) (loads now : ℕ) (taken
       by (PutsLines is lines kept) = absurd (other is)
 
   pub quiet : (result : ℕ) → Ends words held loads now taken taken_now faults faults_now result → result ≢ 8 → result ≢ 9 → result ≢ 10
-      → (now ≡ loads) × (faults_now ≡ faults)
+      → (now ≡ loads) × (faults_now ≡ faults) × TakesReply words held held taken taken_now result
   quiet result ends no_file no_put no_memory = by ends.puts ends.means
     where
-      by : Puts taken taken_now faults faults_now ends.status ends.text result → Means words held loads now ends.status ends.text → (now ≡ loads) × (faults_now ≡ faults)
-      by (PutsWhole is takes kept) (Replies still reply) = (still, kept)
+      by : Puts taken taken_now faults faults_now ends.status ends.text result → Means words held loads now ends.status ends.text
+          → (now ≡ loads) × (faults_now ≡ faults) × TakesReply words held held taken taken_now result
+      by (PutsWhole is takes kept) (Replies still reply) =
+          (still, kept, subst (λ (n : ℕ). TakesReply words held held taken taken_now n) (sym is) (record { text = ends.text; reply = reply; whole = takes }))
       by (PutsWhole is takes kept) (LacksFile rose s t) = absurd (no_file (is ∙ s))
       by (PutsWhole is takes kept) (LacksMemory s t) = absurd (no_memory (is ∙ s))
       by (PutsPart is part rose) means = absurd (no_put is)
       by (PutsLines is lines kept) means = absurd (no_memory is)
 
   pub file : (result : ℕ) → Ends words held loads now taken taken_now faults faults_now result → result ≡ 8
-      → TakesReply words held held taken taken_now 8 ⊎ (Rose loads now × Takes taken taken_now (line_of File))
+      → (faults_now ≡ faults) × (TakesReply words held held taken taken_now 8 ⊎ (Rose loads now × Takes taken taken_now (line_of File)))
   file result ends eight = by ends.puts
     where
-      by : Puts taken taken_now faults faults_now ends.status ends.text result → TakesReply words held held taken taken_now 8 ⊎ (Rose loads now × Takes taken taken_now (line_of File))
-      by (PutsWhole is takes kept) = elim (whole result ends.status ends.text is ends.means takes) [
+      by : Puts taken taken_now faults faults_now ends.status ends.text result
+          → (faults_now ≡ faults) × (TakesReply words held held taken taken_now 8 ⊎ (Rose loads now × Takes taken taken_now (line_of File)))
+      by (PutsWhole is takes kept) = (kept, elim (whole result ends.status ends.text is ends.means takes) [
         | inl reply ↦ inl (subst (λ (n : ℕ). TakesReply words held held taken taken_now n) eight reply)
         | inr fault ↦ elim fault [ inl f ↦ inr (f.0, f.2) | inr memory ↦ absurd (omega arith) ]
-      ]
+      ])
       by (PutsPart is part rose) = absurd (omega arith)
       by (PutsLines is lines kept) = absurd (omega arith)
 

@@ -31,12 +31,13 @@ pub fn venice<F: Files, S: Sink>(alloc: Global, words: &[String], files: &mut F,
 
     // Every status but 8, 9 and 10 is that of a reply, and comes only where nothing outside failed.
     ensures quiet { result ≢ 8 → result ≢ 9 → result ≢ 10
-        → (F.load_faults files.new ≡ F.load_faults files.old) × (S.faults out.new ≡ S.faults out.old) }
+        → (F.load_faults files.new ≡ F.load_faults files.old) × (S.faults out.new ≡ S.faults out.old)
+        × TakesReply (texts_of words.now) (F.held files.old) (F.held files.new) (S.taken out.old) (S.taken out.new) result }
 
     // A file isn't there, or a load failed.
-    ensures file { result ≡ 8
-        → TakesReply (texts_of words.now) (F.held files.old) (F.held files.new) (S.taken out.old) (S.taken out.new) 8
-        ⊎ (Rose (F.load_faults files.old) (F.load_faults files.new) × Takes (S.taken out.old) (S.taken out.new) (line_of Refusal.File)) }
+    ensures file { result ≡ 8 → (S.faults out.new ≡ S.faults out.old)
+        × (TakesReply (texts_of words.now) (F.held files.old) (F.held files.new) (S.taken out.old) (S.taken out.new) 8
+        ⊎ (Rose (F.load_faults files.old) (F.load_faults files.new) × Takes (S.taken out.old) (S.taken out.new) (line_of Refusal.File))) }
 
     // A put failed.
     ensures put { result ≡ 9 → Rose (S.faults out.old) (S.faults out.new)

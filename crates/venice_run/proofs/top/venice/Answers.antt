@@ -5,7 +5,7 @@ pub returns-clause-reply : goal.returns-clause-reply
 returns-clause-reply g c = rw c.reply.ensures.held (λ no_load no_put other. replies _ _ _ _ _ _ _ _ _ c.reply.ensures.ends no_load no_put other)
 
 pub returns-clause-quiet : goal.returns-clause-quiet
-returns-clause-quiet g c = λ no_file no_put no_memory. quiet _ _ _ _ _ _ _ _ _ c.reply.ensures.ends no_file no_put no_memory
+returns-clause-quiet g c = rw c.reply.ensures.held (λ no_file no_put no_memory. quiet _ _ _ _ _ _ _ _ _ c.reply.ensures.ends no_file no_put no_memory)
 
 pub returns-clause-file : goal.returns-clause-file
 returns-clause-file g c = rw c.reply.ensures.held (λ eight. file _ _ _ _ _ _ _ _ _ c.reply.ensures.ends eight)
