@@ -132,10 +132,13 @@ module _ (words : List (List ℕ)) (held : Option Held) (loads now : ℕ) (taken
     where
       by : Puts taken taken_now faults faults_now ends.status ends.text result
           → (faults_now ≡ faults) × (TakesReply words held held taken taken_now 8 ⊎ (Rose loads now × Takes taken taken_now (line_of File)))
-      by (PutsWhole is takes kept) = (kept, elim (whole result ends.status ends.text is ends.means takes) [
-        | inl reply ↦ inl (subst (λ (n : ℕ). TakesReply words held held taken taken_now n) eight reply)
-        | inr fault ↦ elim fault [ inl f ↦ inr (f.0, f.2) | inr memory ↦ absurd (omega arith) ]
-      ])
+      by (PutsWhole is takes kept) = (
+        kept,
+        elim (whole result ends.status ends.text is ends.means takes) [
+          | inl reply ↦ inl (subst (λ (n : ℕ). TakesReply words held held taken taken_now n) eight reply)
+          | inr fault ↦ elim fault [ inl f ↦ inr (f.0, f.2) | inr memory ↦ absurd (omega arith) ]
+        ],
+      )
       by (PutsPart is part rose) = absurd (omega arith)
       by (PutsLines is lines kept) = absurd (omega arith)
 
