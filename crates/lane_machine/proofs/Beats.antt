@@ -4,7 +4,8 @@ use Rattle.std.specs.Int.{w128, cast_signed, cast_unsigned}
 use Rattle.std.proofs.lemmas.Int.{ints}
 use Rattle.std.proofs.lemmas.Bool.{cond-true, cond-false, le-leb, lt-leb}
 use Rattle.venice_isa.specs.declared.work.VecWork.{VecWork}
-use Rattle.venice_isa.specs.Cell.{Cell, overwritten}
+use Rattle.ven_base.specs.Cell.{Cell}
+use Rattle.venice_isa.specs.Cell.{overwritten}
 use Rattle.venice_isa.specs.Region.{place_in}
 use Rattle.venice_isa.specs.Footprint.{destination}
 use Rattle.venice_isa.specs.Whole.{sum_of_results, spelled_sum}

@@ -9,7 +9,8 @@ use Rattle.ven_base.specs.Elem.{size_of, modulus_of, least_of}
 use Rattle.ven_base.specs.Operation.{bits_of}
 use Rattle.ven_base.specs.Wrap.{wrapped}
 use Rattle.ven_base.proofs.Wrapped.{wrap_below, wrap_above, IsWrapped-is}
-use Rattle.venice_isa.specs.Cell.{Cell, part, overwritten}
+use Rattle.ven_base.specs.Cell.{Cell}
+use Rattle.venice_isa.specs.Cell.{part, overwritten}
 use Rattle.venice_isa.specs.Element.{low_bytes, spelled}
 use Rattle.venice_isa.proofs.Overwrites.{overwritten_nothing}
 use Rattle.venice_isa.proofs.Spellings.{low_bytes_length}

@@ -3,7 +3,7 @@ use Rattle.std.proofs.Common.{◌≡◌, ℕ, suc, ◌+◌, ◌-◌, ◌<◌, �
 use Rattle.std.specs.Prelude.{slice_get}
 use Rattle.venice_isa.specs.declared.work.VecWork.{VecWork}
 use Rattle.venice_isa.specs.declared.issue.Issue.TheVariants.{Vector}
-use Rattle.venice_isa.specs.Cell.{Cell}
+use Rattle.ven_base.specs.Cell.{Cell}
 use Rattle.venice_isa.specs.Whole.{IsSimple, IsWhole}
 use Rattle.venice_isa.specs.Beat.{Progress, not_begun, vector_beats, vector_beat, progress_after, after_beats, after_all_beats}
 use Rattle.venice_isa.proofs.Beats.{beats_do_it}

@@ -10,7 +10,8 @@ use Rattle.ven_base.specs.declared.elem.Elem.{Elem}
 use Rattle.ven_base.specs.declared.elem.Elem.TheVariants.{U8, I8, U16, I16, U32, I32}
 use Rattle.ven_base.specs.Elem.{size_of, IsElement}
 use Rattle.venice_isa.specs.declared.work.VecWork.{VecWork}
-use Rattle.venice_isa.specs.Cell.{Cell, part, overwritten}
+use Rattle.ven_base.specs.Cell.{Cell}
+use Rattle.venice_isa.specs.Cell.{part, overwritten}
 use Rattle.venice_isa.specs.Region.{place_in, LiesBelow}
 use Rattle.venice_isa.specs.Element.{spelled}
 use Rattle.venice_isa.specs.Footprint.{destination}

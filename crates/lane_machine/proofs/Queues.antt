@@ -7,7 +7,7 @@ use Rattle.std.proofs.lemmas.List.Elements.{All-get_or, All-drop, All-push}
 use Rattle.std.proofs.lemmas.Option.{slice_get_within, get_or_from_slice_get, none-some}
 use Rattle.circular_buffer.specs.Buffer.{Buffer, buffer}
 use Rattle.venice_isa.specs.declared.work.VecWork.{VecWork}
-use Rattle.venice_isa.specs.Cell.{Cell}
+use Rattle.ven_base.specs.Cell.{Cell}
 use Rattle.venice_isa.specs.Whole.{HasCounts}
 use Rattle.venice_isa.specs.Beat.{Progress, lane_group_at, sum_after, sum_left, progress_after}
 use Rattle.lane_machine.specs.declared.current.Current.{Current}

@@ -1,16 +1,16 @@
 -- What the next elements of a row get.
 use Rattle.std.specs.Prelude.{◌≡◌, ℕ, ◌+◌, ◌<◌, List, Some, slice_get}
-use Rattle.spad_store.specs.Footprint.{LiesBelow}
+use Rattle.spad_store.specs.Footprint.{TouchesBelow}
 use Rattle.venice_isa.specs.declared.work.VecWork.{VecWork}
 use Rattle.venice_isa.specs.declared.issue.Issue.TheVariants.{Vector}
-use Rattle.venice_isa.specs.Cell.{Cell}
+use Rattle.ven_base.specs.Cell.{Cell}
 use Rattle.venice_isa.specs.Footprint.{ReadsCell, WritesCell}
 use Rattle.venice_isa.specs.Whole.{result_at, is_left_alone}
 use Rattle.lane_machine.specs.declared.outcome.Outcome.{Outcome}
 
 -- every cell that the instruction reads or writes lies below the end
 abbrev pub IsInside : VecWork → ℕ → Type 0
-IsInside work end = LiesBelow (ReadsCell (Vector work)) (WritesCell (Vector work)) end
+IsInside work end = TouchesBelow (ReadsCell (Vector work)) (WritesCell (Vector work)) end
 
 -- what element j of row r gets
 abbrev pub outcome_at : VecWork → List Cell → ℕ → ℕ → Outcome

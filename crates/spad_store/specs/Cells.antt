@@ -1,9 +1,6 @@
 -- The scratchpad as a list of cells.
 use Rattle.std.specs.Prelude.{ℕ, Bool, false, List, slice_index_or}
-
--- a cell: a byte, and the flag beside it
-abbrev pub Cell : Type 0
-Cell = ℕ × Bool
+use Rattle.ven_base.specs.Cell.{Cell}
 
 -- the byte of the cell at a place
 abbrev pub byte_at : List Cell → ℕ → ℕ

@@ -2,7 +2,7 @@
 use Rattle.std.specs.Prelude.{◌≡◌, ℕ, ◌<◌, ◌⊎◌, List, length, slice_get}
 
 -- every place that is read or written lies below the end
-pub record LiesBelow (reads writes : ℕ → Type 0) (end : ℕ) : Type 0 where
+pub record TouchesBelow (reads writes : ℕ → Type 0) (end : ℕ) : Type 0 where
   pub read : (p : ℕ) → reads p → p < end
   pub written : (p : ℕ) → writes p → p < end
 

@@ -1,6 +1,6 @@
 ghost use Rattle.std.specs.Prelude.{◌≡◌, ℕ, ◌+◌, ◌<◌, ◌≤◌, ◌↔◌, List, [], ◌∷◌, ◌++◌, length, drop, slice_get, All, IsTrue, IsFalse, IsErr, OnOk, OnErr, IfErr, IfSome};
-ghost use Rattle.spad_store.specs.Cells.{Cell};
-ghost use Rattle.spad_store.specs.Footprint.{LiesBelow, WritesOnly, AgreesOn, ChangesAlike};
+ghost use Rattle.ven_base.specs.Cell.{Cell};
+ghost use Rattle.spad_store.specs.Footprint.{TouchesBelow, WritesOnly, AgreesOn, ChangesAlike};
 ghost use Rattle.spad_store.specs.Queue.{IsQueue};
 
 use crate::{MainMem, Spad};
@@ -88,8 +88,8 @@ pub trait Unit {
     /// Does the next beat of the queue's first work, and takes the work out of the queue with its
     /// last beat. False, with nothing changed, where the queue is empty.
     fn beat(&mut self, cells: &mut Spad, memory: &mut MainMem) -> bool
-        requires cells_inside { All (λ work. LiesBelow (reads_cell work) (writes_cell work) (length cells.old)) (queue self.old) }
-        requires memory_inside { All (λ work. LiesBelow (reads_memory work) (writes_memory work) (length memory.old)) (queue self.old) }
+        requires cells_inside { All (λ work. TouchesBelow (reads_cell work) (writes_cell work) (length cells.old)) (queue self.old) }
+        requires memory_inside { All (λ work. TouchesBelow (reads_memory work) (writes_memory work) (length memory.old)) (queue self.old) }
 
         ensures beaten { IsTrue result ↔ (0 < length (queue self.old)) }
         ensures idle { IsFalse result → (self.new ≡ self.old) × (cells.new ≡ cells.old) × (memory.new ≡ memory.old) }
@@ -110,14 +110,14 @@ pub trait Unit {
     /// A beat changes only bytes of the work's write footprint.
     ghost writes_its_footprint: { (setting : Setting) (work : Self.Work) (progress : Progress) (cells : List Cell) (memory : List ℕ) →
         can_have setting → has_counts work → done progress < beats setting work →
-        LiesBelow (reads_cell work) (writes_cell work) (length cells) → LiesBelow (reads_memory work) (writes_memory work) (length memory) →
+        TouchesBelow (reads_cell work) (writes_cell work) (length cells) → TouchesBelow (reads_memory work) (writes_memory work) (length memory) →
         WritesOnly (writes_cell work) cells (cells_after setting work progress cells memory) × WritesOnly (writes_memory work) memory (memory_after setting work progress cells memory) };
 
     /// What a beat does, and how far it brings the work, depends only on the bytes of the work's
     /// read footprint, on the work, on its progress and on what the unit was made with.
     ghost reads_its_footprint: { (setting : Setting) (work : Self.Work) (progress : Progress) (cells cells' : List Cell) (memory memory' : List ℕ) →
         can_have setting → has_counts work → done progress < beats setting work →
-        LiesBelow (reads_cell work) (writes_cell work) (length cells) → LiesBelow (reads_memory work) (writes_memory work) (length memory) →
+        TouchesBelow (reads_cell work) (writes_cell work) (length cells) → TouchesBelow (reads_memory work) (writes_memory work) (length memory) →
         AgreesOn (reads_cell work) cells cells' → AgreesOn (reads_memory work) memory memory' →
         ChangesAlike cells (cells_after setting work progress cells memory) cells' (cells_after setting work progress cells' memory')
         × ChangesAlike memory (memory_after setting work progress cells memory) memory' (memory_after setting work progress cells' memory')

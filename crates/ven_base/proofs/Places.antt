@@ -3,16 +3,16 @@ use Rattle.std.proofs.Common.{◌≡◌, ℕ, ◌+◌, ◌*◌, ◌<◌, ◌≤�
 use Rattle.std.specs.Prelude.{◌↔◌, ℤ, pos, negsuc, Bool, true, false, nat_lt, if◌then◌else◌}
 use Rattle.std.proofs.lemmas.Bool.{ltb-true, ltb-false}
 use Rattle.std.proofs.Math.Nat.{mul-le-mul_right}
-use Rattle.ven_base.specs.Place.{place_in}
+use Rattle.ven_base.specs.Place.{place_within}
 
 -- row by row, each place is one of the array's
 pub place_below : (rows cols i j : ℕ) → i < rows → j < cols → i * cols + j < rows * cols
 place_below rows cols i j h l = let next : i + 1 ≤ rows = omega arith in omega (arith, mul-le-mul_right cols next)
 
 -- a number is one of the n places exactly where it is a number from 0 on, below n
-pub place_in-is : (n : ℕ) (k : ℤ) (q : ℕ) → (place_in n k ≡ Some q) ↔ ((k ≡ pos q) × (q < n))
-place_in-is n (negsuc k) q = (λ e. absurd (cc), λ h. absurd (let e = h.0 in cc))
-place_in-is n (pos k) q = by (nat_lt k n) refl
+pub place_within-is : (n : ℕ) (k : ℤ) (q : ℕ) → (place_within n k ≡ Some q) ↔ ((k ≡ pos q) × (q < n))
+place_within-is n (negsuc k) q = (λ e. absurd (cc), λ h. absurd (let e = h.0 in cc))
+place_within-is n (pos k) q = by (nat_lt k n) refl
   where
     by : (t : Bool) → nat_lt k n ≡ t → ((if t then Some k else None) ≡ Some q) ↔ ((pos k ≡ pos q) × (q < n))
     by true e = (λ s. let same : k ≡ q = cc in (ap pos same, let below = ltb-true k n e in omega arith), λ h. let same : pos k ≡ pos q = h.0 in cc)

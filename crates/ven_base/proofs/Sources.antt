@@ -8,14 +8,14 @@ use Rattle.std.proofs.Math.Nat.{div-lt_iff_lt-mul, mul-le-mul, mul-le-mul_left, 
 use Rattle.ven_base.specs.declared.mapping.Mapping.{Mapping}
 use Rattle.ven_base.specs.declared.mapping.Mapping.TheVariants.{Identity, Shift, Rotate, Section, Stretch}
 use Rattle.ven_base.specs.Extent.{Extent, IsExtent, IsIndex}
-use Rattle.ven_base.specs.Place.{place_in, place_round, IsCut}
-use Rattle.ven_base.specs.Mapping.{source_of, result_of, FitsShape, index_of_both}
+use Rattle.ven_base.specs.Place.{place_within, place_round, IsCut}
+use Rattle.ven_base.specs.Mapping.{source_of, result_shape, FitsShape, index_of_both}
 use Rattle.ven_base.proofs.Congruence.{rem_below}
 
 -- a place that is one of the n places is below n
-place_in_below : (n : ℕ) (k : ℤ) → IfSome (place_in n k) (λ p. p < n)
-place_in_below n (negsuc k) = tt
-place_in_below n (pos k) = by (nat_lt k n) refl
+place_within_below : (n : ℕ) (k : ℤ) → IfSome (place_within n k) (λ p. p < n)
+place_within_below n (negsuc k) = tt
+place_within_below n (pos k) = by (nat_lt k n) refl
   where
     by : (t : Bool) → nat_lt k n ≡ t → IfSome (if t then Some k else None) (λ p. p < n)
     by true e = ltb-true k n e
@@ -28,9 +28,9 @@ repeat_below : (n times i : ℕ) → 0 < times → i < n * times → i / times <
 repeat_below n times i some h = (div-lt_iff_lt-mul some).1 h
 
 -- the source of an index of the result is an index of the operand
-pub source_of-inside : (mapping : Mapping) (shape : Extent) (i j : ℕ) → IsExtent shape → FitsShape mapping shape → IsIndex (result_of mapping shape) i j → IfSome (source_of mapping shape i j) (λ s. IsIndex shape s.0 s.1)
+pub source_of-inside : (mapping : Mapping) (shape : Extent) (i j : ℕ) → IsExtent shape → FitsShape mapping shape → IsIndex (result_shape mapping shape) i j → IfSome (source_of mapping shape i j) (λ s. IsIndex shape s.0 s.1)
 source_of-inside Identity shape i j e f at = at
-source_of-inside (Shift dr dc fill) shape i j e f at = both (place_in shape.rows (pos i +ℤ dr)) (place_in shape.cols (pos j +ℤ dc)) (place_in_below shape.rows (pos i +ℤ dr)) (place_in_below shape.cols (pos j +ℤ dc))
+source_of-inside (Shift dr dc fill) shape i j e f at = both (place_within shape.rows (pos i +ℤ dr)) (place_within shape.cols (pos j +ℤ dc)) (place_within_below shape.rows (pos i +ℤ dr)) (place_within_below shape.cols (pos j +ℤ dc))
   where
     both : (r c : Option ℕ) → IfSome r (λ p. p < shape.rows) → IfSome c (λ p. p < shape.cols) → IfSome (index_of_both r c) (λ s. IsIndex shape s.0 s.1)
     both None c p q = tt
@@ -62,7 +62,7 @@ pub source_of-shift_piece : (dr dc fill : ℤ) (shape : Extent) (r c i j : ℕ)
 source_of-shift_piece dr dc fill shape r c i j =
     let row : pos i +ℤ (pos r +ℤ dr) ≡ pos (r + i) +ℤ dr = omega (arith, ints) in
     let col : pos j +ℤ (pos c +ℤ dc) ≡ pos (c + j) +ℤ dc = omega (arith, ints) in
-    λ k. index_of_both (place_in shape.rows (row k)) (place_in shape.cols (col k))
+    λ k. index_of_both (place_within shape.rows (row k)) (place_within shape.cols (col k))
 
 pub source_of-rotate_piece : (dr dc : ℤ) (shape : Extent) (r c i j : ℕ)
     → source_of (Rotate (pos r +ℤ dr) (pos c +ℤ dc)) shape i j ≡ source_of (Rotate dr dc) shape (r + i) (c + j)
@@ -86,15 +86,15 @@ cut_at_most : (n first count step : ℕ) → IsCut n first count step → count 
 cut_at_most n first count step h = let far : (count - 1) * 1 ≤ (count - 1) * step = mul-le-mul_left (count - 1) h.moves in omega (arith, h.inside, h.some)
 
 -- the result of a mapping that fits has a shape
-pub result_of-IsExtent : (mapping : Mapping) (shape : Extent) → IsExtent shape → FitsShape mapping shape → IsExtent (result_of mapping shape)
-result_of-IsExtent Identity shape e f = e
-result_of-IsExtent (Shift dr dc fill) shape e f = e
-result_of-IsExtent (Rotate dr dc) shape e f = e
-result_of-IsExtent (Section r0 nr sr c0 nc sc) shape e f =
+pub result_shape-IsExtent : (mapping : Mapping) (shape : Extent) → IsExtent shape → FitsShape mapping shape → IsExtent (result_shape mapping shape)
+result_shape-IsExtent Identity shape e f = e
+result_shape-IsExtent (Shift dr dc fill) shape e f = e
+result_shape-IsExtent (Rotate dr dc) shape e f = e
+result_shape-IsExtent (Section r0 nr sr c0 nc sc) shape e f =
     let rows = mul-le-mul_right nc (cut_at_most shape.rows r0 nr sr f.0) in
     let cols = mul-le-mul_left shape.rows (cut_at_most shape.cols c0 nc sc f.1) in
     record { some_rows = f.0.some; some_cols = f.1.some; within = omega (arith, e.within) }
-result_of-IsExtent (Stretch kr kc) shape e f =
+result_shape-IsExtent (Stretch kr kc) shape e f =
     let rows = mul-le-mul e.some_rows f.some_rows in
     let cols = mul-le-mul e.some_cols f.some_cols in
     record { some_rows = rows; some_cols = cols; within = f.within }

@@ -10,8 +10,8 @@ use Rattle.ven_base.specs.Wrap.{AreCongruent, IsWrapped, wrapped}
 use Rattle.ven_base.specs.Operation.{amount_of, bits_of, exact2}
 use Rattle.ven_base.specs.Folding.{total_of, folded, IsFolded, joined}
 use Rattle.ven_base.specs.Extent.{Extent, IsExtent, IsIndex}
-use Rattle.ven_base.specs.Mapping.{source_of, result_of, FitsShape}
-use Rattle.ven_base.specs.Place.{place_in, place_round, IsCut}
+use Rattle.ven_base.specs.Mapping.{source_of, result_shape, FitsShape}
+use Rattle.ven_base.specs.Place.{place_within, place_round, IsCut}
 
 -- ---- wrapping
 
@@ -82,17 +82,17 @@ GoesRound = (n : ℕ) (k : ℤ) → 0 < n → (place_round n k < n) × AreCongru
 
 -- a number is one of the n places exactly where it is a number from 0 on, below n
 abbrev pub FindsPlaces : Type 0
-FindsPlaces = (n : ℕ) (k : ℤ) (q : ℕ) → (place_in n k ≡ Some q) ↔ ((k ≡ pos q) × (q < n))
+FindsPlaces = (n : ℕ) (k : ℤ) (q : ℕ) → (place_within n k ≡ Some q) ↔ ((k ≡ pos q) × (q < n))
 
 -- ---- index maps
 
 -- the source of an index of the result is an index of the operand
 abbrev pub SourcesAreInside : Type 0
-SourcesAreInside = (mapping : Mapping) (shape : Extent) (i j : ℕ) → IsExtent shape → FitsShape mapping shape → IsIndex (result_of mapping shape) i j → IfSome (source_of mapping shape i j) (λ s. IsIndex shape s.0 s.1)
+SourcesAreInside = (mapping : Mapping) (shape : Extent) (i j : ℕ) → IsExtent shape → FitsShape mapping shape → IsIndex (result_shape mapping shape) i j → IfSome (source_of mapping shape i j) (λ s. IsIndex shape s.0 s.1)
 
 -- the result has a shape
 abbrev pub ResultsAreShapes : Type 0
-ResultsAreShapes = (mapping : Mapping) (shape : Extent) → IsExtent shape → FitsShape mapping shape → IsExtent (result_of mapping shape)
+ResultsAreShapes = (mapping : Mapping) (shape : Extent) → IsExtent shape → FitsShape mapping shape → IsExtent (result_shape mapping shape)
 
 -- a piece of a section, from row r and column c of the result on, is a section that begins further on
 abbrev pub CutsSections : Type 0

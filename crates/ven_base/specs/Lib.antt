@@ -9,4 +9,5 @@ pub mod Mapping
 pub mod Grid
 pub mod Folding
 pub mod Pairs
+pub mod Cell
 pub mod Laws

@@ -3,7 +3,7 @@ use Rattle.std.specs.Prelude.{ℕ, ℤ, pos, ◌+◌, ◌*◌, ◌/◌, ◌+ℤ�
 use Rattle.ven_base.specs.declared.mapping.Mapping.{Mapping}
 use Rattle.ven_base.specs.declared.mapping.Mapping.TheVariants.{Identity, Shift, Rotate, Section, Stretch}
 use Rattle.ven_base.specs.Extent.{Extent}
-use Rattle.ven_base.specs.Place.{place_in, place_round, IsMove, IsCut, IsRepeat}
+use Rattle.ven_base.specs.Place.{place_within, place_round, IsMove, IsCut, IsRepeat}
 
 -- the index of both, where both are there
 abbrev pub index_of_both : Option ℕ → Option ℕ → Option (ℕ × ℕ)
@@ -14,7 +14,7 @@ index_of_both None j = None
 -- the index of an operand of this shape that index (i, j) of the result stands for: none where a shift leaves the shape
 abbrev pub source_of : Mapping → Extent → ℕ → ℕ → Option (ℕ × ℕ)
 source_of Identity shape i j = Some (i, j)
-source_of (Shift dr dc fill) shape i j = index_of_both (place_in shape.rows (pos i +ℤ dr)) (place_in shape.cols (pos j +ℤ dc))
+source_of (Shift dr dc fill) shape i j = index_of_both (place_within shape.rows (pos i +ℤ dr)) (place_within shape.cols (pos j +ℤ dc))
 source_of (Rotate dr dc) shape i j = Some (place_round shape.rows (pos i +ℤ dr), place_round shape.cols (pos j +ℤ dc))
 source_of (Section r0 nr sr c0 nc sc) shape i j = Some (r0 + i * sr, c0 + j * sc)
 source_of (Stretch kr kc) shape i j = Some (i / kr, j / kc)
@@ -28,12 +28,12 @@ fill_of (Section r0 nr sr c0 nc sc) = pos 0
 fill_of (Stretch kr kc) = pos 0
 
 -- the shape of the result
-abbrev pub result_of : Mapping → Extent → Extent
-result_of Identity shape = shape
-result_of (Shift dr dc fill) shape = shape
-result_of (Rotate dr dc) shape = shape
-result_of (Section r0 nr sr c0 nc sc) shape = record { rows = nr; cols = nc }
-result_of (Stretch kr kc) shape = record { rows = shape.rows * kr; cols = shape.cols * kc }
+abbrev pub result_shape : Mapping → Extent → Extent
+result_shape Identity shape = shape
+result_shape (Shift dr dc fill) shape = shape
+result_shape (Rotate dr dc) shape = shape
+result_shape (Section r0 nr sr c0 nc sc) shape = record { rows = nr; cols = nc }
+result_shape (Stretch kr kc) shape = record { rows = shape.rows * kr; cols = shape.cols * kc }
 
 -- the mapping may be taken of an array of this shape
 abbrev pub FitsShape : Mapping → Extent → Type 0
@@ -41,4 +41,4 @@ FitsShape Identity shape = Unit {0}
 FitsShape (Shift dr dc fill) shape = IsMove dr × IsMove dc
 FitsShape (Rotate dr dc) shape = IsMove dr × IsMove dc
 FitsShape (Section r0 nr sr c0 nc sc) shape = IsCut shape.rows r0 nr sr × IsCut shape.cols c0 nc sc
-FitsShape (Stretch kr kc) shape = IsRepeat kr kc (result_of (Stretch kr kc) shape)
+FitsShape (Stretch kr kc) shape = IsRepeat kr kc (result_shape (Stretch kr kc) shape)

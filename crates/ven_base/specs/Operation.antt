@@ -19,8 +19,8 @@ abbrev pub amount_of : Elem → ℤ → ℕ
 amount_of elem y = unsigned_abs (int_rem_euclid y (pos (width_of elem)))
 
 -- the answer of a comparison
-abbrev pub flag_of : Bool → ℤ
-flag_of answer = if answer then pos 1 else pos 0
+abbrev pub one_or_zero : Bool → ℤ
+one_or_zero answer = if answer then pos 1 else pos 0
 
 -- an operation on one whole number
 abbrev pub exact1 : Op1 → ℤ → ℤ
@@ -40,12 +40,12 @@ exact2 Shl elem x y = x *ℤ pos (2 ^ amount_of elem y)
 exact2 Shr elem x y = int_div_euclid x (pos (2 ^ amount_of elem y))
 exact2 Min elem x y = int_min x y
 exact2 Max elem x y = int_max x y
-exact2 Eq elem x y = flag_of (int_eq x y)
-exact2 Ne elem x y = flag_of (not (int_eq x y))
-exact2 Lt elem x y = flag_of (int_lt x y)
-exact2 Le elem x y = flag_of (not (int_lt y x))
-exact2 Gt elem x y = flag_of (int_lt y x)
-exact2 Ge elem x y = flag_of (not (int_lt x y))
+exact2 Eq elem x y = one_or_zero (int_eq x y)
+exact2 Ne elem x y = one_or_zero (not (int_eq x y))
+exact2 Lt elem x y = one_or_zero (int_lt x y)
+exact2 Le elem x y = one_or_zero (not (int_lt y x))
+exact2 Gt elem x y = one_or_zero (int_lt y x)
+exact2 Ge elem x y = one_or_zero (not (int_lt x y))
 
 -- what the operation gives in the type
 abbrev pub applied1 : Op1 → Elem → ℤ → ℤ

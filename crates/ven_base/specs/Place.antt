@@ -4,9 +4,9 @@ use Rattle.std.specs.Int.{int_rem_euclid}
 use Rattle.ven_base.specs.Extent.{Extent, elements_of, element_limit}
 
 -- this place, where it is one of the n places from 0 on
-abbrev pub place_in : ℕ → ℤ → Option ℕ
-place_in n (pos k) = if nat_lt k n then Some k else None
-place_in n (negsuc k) = None
+abbrev pub place_within : ℕ → ℤ → Option ℕ
+place_within n (pos k) = if nat_lt k n then Some k else None
+place_within n (negsuc k) = None
 
 -- the place, going round the n places
 abbrev pub place_round : ℕ → ℤ → ℕ

@@ -3,8 +3,8 @@ use Rattle.std.specs.Prelude.{◌≡◌, ℕ, ◌-◌, List, ◌++◌, length, t
 use Rattle.ven_base.specs.Name.{IsName}
 
 -- the bytes that the first len places hold
-abbrev pub bytes_of : List ℕ → ℕ → List ℕ
-bytes_of bytes len = take len bytes
+abbrev pub stored_bytes : List ℕ → ℕ → List ℕ
+stored_bytes bytes len = take len bytes
 
 -- the name's bytes, with zeros up to 31
 abbrev pub padded : List ℕ → List ℕ
@@ -12,6 +12,6 @@ padded name = name ++ replicate (31 - length name) 0
 
 -- these places hold a name of this length
 pub record IsStored (bytes : List ℕ) (len : ℕ) : Type 0 where
-  pub is_padded : padded (bytes_of bytes len) ≡ bytes
-  pub len_is : length (bytes_of bytes len) ≡ len
-  pub is_name : IsName (bytes_of bytes len)
+  pub is_padded : padded (stored_bytes bytes len) ≡ bytes
+  pub len_is : length (stored_bytes bytes len) ≡ len
+  pub is_name : IsName (stored_bytes bytes len)

@@ -1,7 +1,7 @@
 //! Index maps: which element of its operand an element of the result is.
 ghost use Rattle.std.specs.Prelude.{◌≡◌, ◌↔◌, ◌<◌, ◌≤◌, ◌*◌, pos, ◌+ℤ◌, IsTrue};
 ghost use Rattle.ven_base.specs.Extent.{element_limit};
-ghost use Rattle.ven_base.specs.Place.{IsMove, IsCut, place_in as place_inside, place_round as place_around};
+ghost use Rattle.ven_base.specs.Place.{IsMove, IsCut, place_within as place_inside, place_round as place_around};
 
 use crate::{ELEMENT_LIMIT, Shape};
 
@@ -40,7 +40,7 @@ pub enum Mapping {
 impl Mapping {
     ghost use Rattle.std.specs.Prelude.{◌≡◌};
     ghost use Rattle.ven_base.specs.Extent.{IsIndex};
-    ghost use Rattle.ven_base.specs.Mapping.{source_of, result_of, FitsShape};
+    ghost use Rattle.ven_base.specs.Mapping.{source_of, result_shape, FitsShape};
 
     /// Whether the mapping may be taken of an array of shape `of`: a section lies inside, with steps and counts that
     /// aren't 0, a stretch has no 0 and at most 1,048,576 elements, and shifts and rotations go at most 4,294,967,295 far.
@@ -66,7 +66,7 @@ impl Mapping {
     /// The shape of the result, where the mapping fits.
     pub fn result(&self, of: Shape) -> Shape
         requires { FitsShape self.now of }
-        ensures { result ≡ result_of self.now of }
+        ensures { result ≡ result_shape self.now of }
     {
         match *self {
             Mapping::Identity | Mapping::Shift { .. } | Mapping::Rotate { .. } => of,
@@ -82,14 +82,14 @@ impl Mapping {
     /// `None` exactly where a shift leaves the shape.
     pub fn source(&self, of: Shape, i: u32, j: u32) -> Option<(u32, u32)>
         requires fits { FitsShape self.now of }
-        requires inside { IsIndex (result_of self.now of) i j }
+        requires inside { IsIndex (result_shape self.now of) i j }
         ensures { result ≡ source_of self.now of i j }
     {
         match *self {
             Mapping::Identity => Some((i, j)),
             Mapping::Shift { dr, dc, .. } => {
-                let row = place_in(of.rows, moved(i, dr))?;
-                let col = place_in(of.cols, moved(j, dc))?;
+                let row = place_within(of.rows, moved(i, dr))?;
+                let col = place_within(of.cols, moved(j, dc))?;
                 Some((row, col))
             }
             Mapping::Rotate { dr, dc } => {
@@ -139,7 +139,7 @@ fn moved(place: u32, d: i64) -> i64
 }
 
 /// This place, where it is one of the n places from 0 on.
-fn place_in(n: u32, k: i64) -> Option<u32>
+fn place_within(n: u32, k: i64) -> Option<u32>
     ensures { result ≡ place_inside n k }
 {
     if k < 0 || k >= i64::from(n) {

@@ -32,11 +32,11 @@ pub struct Name {
 
 impl Model for Name {
     ghost use Rattle.std.specs.Prelude.{◌≡◌, List, ℕ, ◌≤◌, ◌-◌, ◌++◌, length, take, drop, replicate};
-    ghost use Rattle.ven_base.specs.Stored.{IsStored, bytes_of, padded};
+    ghost use Rattle.ven_base.specs.Stored.{IsStored, stored_bytes, padded};
 
     ghost Value = { List ℕ };
 
-    ghost view = { λ n. bytes_of n.bytes n.len };
+    ghost view = { λ n. stored_bytes n.bytes n.len };
 
     ghost invariant = { λ n. IsStored n.bytes n.len };
 

@@ -10,7 +10,8 @@ use Rattle.ven_base.specs.Wrap.{wrapped}
 use Rattle.venice_isa.specs.declared.work.VecWork.{VecWork}
 use Rattle.venice_isa.specs.declared.region.Region.{Region}
 use Rattle.venice_isa.specs.declared.issue.Issue.TheVariants.{Vector}
-use Rattle.venice_isa.specs.Cell.{Cell, cell_at, overwritten}
+use Rattle.ven_base.specs.Cell.{Cell}
+use Rattle.venice_isa.specs.Cell.{cell_at, overwritten}
 use Rattle.venice_isa.specs.Region.{place_in, IsAt, Covers, LiesBelow}
 use Rattle.venice_isa.specs.Footprint.{destination, ReadsCell}
 use Rattle.venice_isa.specs.Whole.{new_element, sum_of_results, spelled_sum, HasCounts}

@@ -7,7 +7,8 @@ use Rattle.std.proofs.lemmas.List.{length-map, length-append, length-take-le, ta
 use Rattle.venice_isa.specs.declared.work.DmaWork.{DmaWork}
 use Rattle.venice_isa.specs.declared.region.Region.{Region}
 use Rattle.venice_isa.specs.declared.issue.Issue.TheVariants.{Read, Write}
-use Rattle.venice_isa.specs.Cell.{Cell, Store, byte_of, clear, part, overwritten}
+use Rattle.ven_base.specs.Cell.{Cell}
+use Rattle.venice_isa.specs.Cell.{Store, byte_of, clear, part, overwritten}
 use Rattle.venice_isa.specs.Region.{place_in, LiesBelow}
 use Rattle.venice_isa.specs.Footprint.{cells_of, memory_of, IsInRange}
 use Rattle.venice_isa.specs.Copy.{with_bytes_copied, with_rows_copied, read_into, written_back}

@@ -1,9 +1,6 @@
 -- The scratchpad and memory as plain lists, and what it is to write over a part of a list.
 use Rattle.std.specs.Prelude.{ℕ, Bool, false, List, ◌++◌, ◌+◌, length, take, drop, slice_index_or}
-
--- a cell of the scratchpad: a byte, and the flag beside it
-abbrev pub Cell : Type 0
-Cell = ℕ × Bool
+use Rattle.ven_base.specs.Cell.{Cell}
 
 abbrev pub byte_of : Cell → ℕ
 byte_of cell = cell.0

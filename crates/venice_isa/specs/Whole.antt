@@ -6,7 +6,8 @@ use Rattle.ven_base.specs.Wrap.{wrapped}
 use Rattle.venice_isa.specs.declared.work.VecWork.{VecWork}
 use Rattle.venice_isa.specs.declared.kind.VecKind.{VecKind}
 use Rattle.venice_isa.specs.Mode.{uses_b, is_comparison, is_conditional}
-use Rattle.venice_isa.specs.Cell.{Cell, cell_at, flag_of, part}
+use Rattle.ven_base.specs.Cell.{Cell}
+use Rattle.venice_isa.specs.Cell.{cell_at, flag_of, part}
 use Rattle.venice_isa.specs.declared.region.Region.{Region}
 use Rattle.venice_isa.specs.Region.{place_in, Covers, HasElementsApart, IsApartFrom, HasSamePlaces}
 use Rattle.venice_isa.specs.Element.{number_at, spelled}

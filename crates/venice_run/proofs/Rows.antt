@@ -10,7 +10,8 @@ use Rattle.std.proofs.lemmas.Slice.Zip.{get_or-zip, length-zip}
 use Rattle.ven_base.specs.declared.elem.Elem.TheVariants.{U8}
 use Rattle.ven_base.specs.Wrap.{wrapped}
 use Rattle.ven_base.proofs.Wrapped.{wrap_below, IsWrapped-is, wrapped-add}
-use Rattle.venice_isa.specs.Cell.{Cell, byte_of, clear, cell_at, part, overwritten}
+use Rattle.ven_base.specs.Cell.{Cell}
+use Rattle.venice_isa.specs.Cell.{byte_of, clear, cell_at, part, overwritten}
 use Rattle.venice_isa.specs.Region.{Covers}
 use Rattle.venice_isa.specs.Element.{number_at, number_of, spelled}
 use Rattle.venice_isa.specs.Answer.{result_of}

@@ -1,10 +1,10 @@
-use Rattle.ven_base.proofs.Sources.{source_of-inside, result_of-IsExtent, source_of-section_piece, IsCut-piece, source_of-shift_piece, source_of-rotate_piece, source_of-stretch_block}
+use Rattle.ven_base.proofs.Sources.{source_of-inside, result_shape-IsExtent, source_of-section_piece, IsCut-piece, source_of-shift_piece, source_of-rotate_piece, source_of-stretch_block}
 use Rattle.ven_base.proofs.laws.mapping_laws.Goals as goal
 
 pub returns : goal.returns
 returns c = record {
   inside = source_of-inside;
-  shapes = result_of-IsExtent;
+  shapes = result_shape-IsExtent;
   sections = source_of-section_piece;
   pieces_fit = IsCut-piece;
   shifts = source_of-shift_piece;
