@@ -5,3 +5,5 @@ pub mod NamedArrays
 pub mod Reductions
 pub mod Sources
 pub mod Places
+pub mod MachineWords
+pub mod Operations

@@ -31,4 +31,4 @@ pub use name::{
 };
 pub use ops::{Fold, Op1, Op2};
 pub use shape::{ELEMENT_LIMIT, Shape};
-pub use wrapping::wrap;
+pub use wrapping::{bits_of, wrap};
