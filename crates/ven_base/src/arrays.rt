@@ -47,7 +47,8 @@ impl Arrays {
     {
         // What is known of every name shows in its bytes.
         let _known = name.bytes();
-        if self.pairs.contains_key(&name) {
+        let there = self.pairs.contains_key(&name);
+        if there {
             return Ok(false);
         }
         self.pairs.insert(name, array)?;
