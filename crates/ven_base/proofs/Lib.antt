@@ -7,3 +7,4 @@ pub mod Sources
 pub mod Places
 pub mod MachineWords
 pub mod Operations
+pub mod Grids

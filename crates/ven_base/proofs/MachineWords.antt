@@ -13,7 +13,7 @@ use Rattle.ven_base.specs.declared.elem.Elem.TheVariants.{U8, I8, U16, I16, U32,
 use Rattle.ven_base.specs.Elem.{width_of, modulus_of, least_of}
 use Rattle.ven_base.specs.Operation.{bits_of}
 use Rattle.ven_base.specs.Wrap.{AreCongruent, wrapped}
-use Rattle.ven_base.proofs.Congruence.{AreCongruent-refl, AreCongruent-sym, AreCongruent-trans, euclid, rem_below, rem_congruent}
+use Rattle.ven_base.proofs.Congruence.{AreCongruent-refl, AreCongruent-trans, euclid, rem_below, rem_congruent}
 use Rattle.ven_base.proofs.Wrapped.{wrapped-AreCongruent, modulus_pos}
 
 -- numbers that are congruent modulo a multiple of a number are congruent modulo it

@@ -1,5 +1,5 @@
 -- Results of operations that are numbers of the type already, and so need no wrapping.
-use Rattle.std.proofs.Common.{◌≡◌, ℕ, ◌+◌, ◌*◌, ◌/◌, ◌^◌, ◌<◌, ◌≤◌, refl, sym, ◌∙◌, arith}
+use Rattle.std.proofs.Common.{◌≡◌, ℕ, ◌^◌, refl, sym, ◌∙◌, arith}
 use Rattle.std.specs.Prelude.{ℤ, pos, negsuc, ◌≤ℤ◌, ◌<ℤ◌, neg_ℤ, Bool, true, false}
 use Rattle.std.specs.Int.{int_div_euclid, int_min, int_max}
 use Rattle.std.proofs.lemmas.Int.{ints, clamps}

@@ -1,6 +1,7 @@
 -- Laws of reductions: how the parts of a list that is cut make the whole.
 use Rattle.std.proofs.Common.{◌≡◌, List, [], ◌∷◌, ◌++◌, refl, sym, ap, subst, ◌∙◌, arith, All, Contains}
-use Rattle.std.specs.Prelude.{ℤ, ◌+ℤ◌, ◌≤ℤ◌, ◌<ℤ◌}
+use Rattle.std.specs.Prelude.{ℤ, pos, ◌+ℤ◌, ◌≤ℤ◌, ◌<ℤ◌, map, fold}
+use Rattle.std.specs.List.{flat_map}
 use Rattle.std.specs.Int.{int_min, int_max}
 use Rattle.std.proofs.lemmas.Int.{ints, clamps, by_lt_z}
 use lib.IntN.{+ℤ_assoc, +ℤ_idl}
@@ -13,7 +14,7 @@ use Rattle.ven_base.specs.declared.ops.Fold.TheVariants.{Sum, Min, Max}
 use Rattle.ven_base.specs.Elem.{IsElement}
 use Rattle.ven_base.specs.Wrap.{wrapped}
 use Rattle.ven_base.specs.Folding.{total_of, folded, IsFolded, joined}
-use Rattle.ven_base.proofs.Wrapped.{wrapped-add, IsElement-wrapped}
+use Rattle.ven_base.proofs.Wrapped.{wrapped-add, wrapped-add_left, wrapped-add_right, wrapped_in, IsElement-wrapped}
 
 pub total_of-append : (xs ys : List ℤ) → total_of (xs ++ ys) ≡ total_of xs +ℤ total_of ys
 total_of-append [] ys = sym (+ℤ_idl (total_of ys))
@@ -22,6 +23,21 @@ total_of-append (x ∷ xs) ys = ap (λ s. x +ℤ s) (total_of-append xs ys) ∙ 
 -- the wrapped sum of a list doesn't depend on how the list is cut
 pub wrapped_total-append : (elem : Elem) (xs ys : List ℤ) → wrapped elem (wrapped elem (total_of xs) +ℤ wrapped elem (total_of ys)) ≡ wrapped elem (total_of (xs ++ ys))
 wrapped_total-append elem xs ys = wrapped-add elem (total_of xs) (total_of ys) ∙ ap (wrapped elem) (sym (total_of-append xs ys))
+
+-- nor on the number of parts
+pub wrapped_total-parts : (elem : Elem) (parts : List (List ℤ)) → wrapped elem (total_of (map (λ part. wrapped elem (total_of part)) parts)) ≡ wrapped elem (total_of (flat_map (λ part. part) parts))
+wrapped_total-parts elem [] = refl
+wrapped_total-parts elem (part ∷ parts) =
+    let sums = total_of (map (λ part. wrapped elem (total_of part)) parts) in
+    let whole = total_of (flat_map (λ (part : List ℤ). part) parts) in
+    wrapped-add_left elem (total_of part) sums ∙ sym (wrapped-add_right elem (total_of part) sums) ∙ ap (λ s. wrapped elem (total_of part +ℤ s)) (wrapped_total-parts elem parts)
+    ∙ wrapped-add_right elem (total_of part) whole ∙ ap (wrapped elem) (sym (total_of-append part (flat_map (λ (part : List ℤ). part) parts)))
+
+-- a sum that is wrapped at each step is the sum that is wrapped once
+pub wrapped_steps : (elem : Elem) (start : ℤ) (xs : List ℤ) → IsElement elem start → fold (λ sum x. wrapped elem (sum +ℤ x)) start xs ≡ wrapped elem (start +ℤ total_of xs)
+wrapped_steps elem start [] h = let same : start ≡ start +ℤ pos 0 = omega (arith, ints) in sym (wrapped_in elem start h) ∙ ap (wrapped elem) same
+wrapped_steps elem start (x ∷ xs) h =
+    wrapped_steps elem (wrapped elem (start +ℤ x)) xs (IsElement-wrapped elem (start +ℤ x)) ∙ wrapped-add_left elem (start +ℤ x) (total_of xs) ∙ ap (wrapped elem) (+ℤ_assoc start x (total_of xs))
 
 -- a first value is one of the list, and a value of the rest too
 here : (x : ℤ) (xs : List ℤ) → Contains (x ∷ xs) x

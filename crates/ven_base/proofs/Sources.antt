@@ -1,10 +1,10 @@
 -- Laws of index maps: the source of each index of the result lies in the operand.
-use Rattle.std.proofs.Common.{◌≡◌, ℕ, ◌+◌, ◌-◌, ◌*◌, ◌/◌, ◌<◌, ◌≤◌, refl, arith, IfSome, Option, None, Some}
+use Rattle.std.proofs.Common.{◌≡◌, ℕ, ◌+◌, ◌-◌, ◌*◌, ◌/◌, ◌<◌, ◌≤◌, refl, ap, ◌∙◌, arith, IfSome, Option, None, Some}
 use Rattle.std.specs.Prelude.{ℤ, pos, negsuc, ◌+ℤ◌, Bool, true, false, nat_lt, if◌then◌else◌}
 use Rattle.std.proofs.lemmas.Bool.{ltb-true}
 use Rattle.std.proofs.lemmas.Int.{ints}
 use Rattle.std.proofs.lemmas.Nat.{div-mul-add}
-use Rattle.std.proofs.Math.Nat.{div-lt_iff_lt-mul, mul-le-mul, mul-le-mul_left, mul-le-mul_right}
+use Rattle.std.proofs.Math.Nat.{div-lt_iff_lt-mul, add-mul-div_right, add_comm, mul-le-mul, mul-le-mul_left, mul-le-mul_right}
 use Rattle.ven_base.specs.declared.mapping.Mapping.{Mapping}
 use Rattle.ven_base.specs.declared.mapping.Mapping.TheVariants.{Identity, Shift, Rotate, Section, Stretch}
 use Rattle.ven_base.specs.Extent.{Extent, IsExtent, IsIndex}
@@ -23,6 +23,9 @@ place_within_below n (pos k) = by (nat_lt k n) refl
 
 cut_below : (n first count step i : ℕ) → IsCut n first count step → i < count → first + i * step < n
 cut_below n first count step i h below = let l : i ≤ count - 1 = omega arith in omega (arith, mul-le-mul_right step l)
+
+block_after : (a w b : ℕ) → 1 ≤ w → (a * w + b) / w ≡ a + b / w
+block_after a w b h = let sum : a * w + b ≡ b + a * w = omega arith in ap (λ n. n / w) sum ∙ add-mul-div_right b a h ∙ add_comm (b / w) a
 
 repeat_below : (n times i : ℕ) → 0 < times → i < n * times → i / times < n
 repeat_below n times i some h = (div-lt_iff_lt-mul some).1 h
@@ -78,6 +81,20 @@ source_of-stretch_block kr kc shape i j r c h l =
     let row = div-mul-add i kr r h in
     let col = div-mul-add j kc c l in
     λ k. Some (row k, col k)
+
+-- a piece of a stretch that begins at a whole block is a stretch of a piece of the operand
+pub source_of-stretch_piece : (kr kc : ℕ) (shape : Extent) (r c i j : ℕ) → 1 ≤ kr → 1 ≤ kc
+    → source_of (Stretch kr kc) shape (r * kr + i) (c * kc + j) ≡ Some (r + i / kr, c + j / kc)
+source_of-stretch_piece kr kc shape r c i j h l =
+    let row : (r * kr + i) / kr ≡ r + i / kr = block_after r kr i h in
+    let col : (c * kc + j) / kc ≡ c + j / kc = block_after c kc j l in
+    λ k. Some (row k, col k)
+
+-- and it fits
+pub FitsShape-stretch_piece : (kr kc : ℕ) (shape piece : Extent) → FitsShape (Stretch kr kc) shape → piece.rows ≤ shape.rows → piece.cols ≤ shape.cols → FitsShape (Stretch kr kc) piece
+FitsShape-stretch_piece kr kc shape piece f h l =
+    let fewer = mul-le-mul (mul-le-mul_right kr h) (mul-le-mul_right kc l) in
+    record { some_rows = f.some_rows; some_cols = f.some_cols; within = omega (arith, f.within) }
 
 -- ---- the shape of the result
 

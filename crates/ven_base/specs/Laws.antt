@@ -1,7 +1,10 @@
 -- What holds of the definitions, for every number, list, shape and index.
-use Rattle.std.specs.Prelude.{◌≡◌, ◌↔◌, ℕ, ℤ, pos, ◌+◌, ◌*◌, ◌^◌, ◌<◌, ◌≤◌, ◌+ℤ◌, ◌-ℤ◌, ◌*ℤ◌, ◌≤ℤ◌, ◌<ℤ◌, List, ◌∷◌, ◌++◌, All, IfSome, Some}
+use Rattle.std.specs.Prelude.{◌≡◌, ◌↔◌, ℕ, ℤ, pos, ◌+◌, ◌*◌, ◌^◌, ◌<◌, ◌≤◌, ◌+ℤ◌, ◌-ℤ◌, ◌*ℤ◌, ◌≤ℤ◌, ◌<ℤ◌, List, ◌∷◌, ◌++◌, map, fold, All, IfSome, Some, ◌/◌}
+use Rattle.std.specs.List.{flat_map}
 use Rattle.ven_base.specs.declared.elem.Elem.{Elem}
 use Rattle.ven_base.specs.declared.ops.Fold.{Fold}
+use Rattle.ven_base.specs.declared.ops.Op1.{Op1}
+use Rattle.ven_base.specs.declared.ops.Op2.{Op2}
 use Rattle.ven_base.specs.declared.ops.Op2.TheVariants.{Shr}
 use Rattle.ven_base.specs.declared.mapping.Mapping.{Mapping}
 use Rattle.ven_base.specs.declared.mapping.Mapping.TheVariants.{Shift, Rotate, Section, Stretch}
@@ -12,6 +15,7 @@ use Rattle.ven_base.specs.Folding.{total_of, folded, IsFolded, joined}
 use Rattle.ven_base.specs.Extent.{Extent, IsExtent, IsIndex}
 use Rattle.ven_base.specs.Mapping.{source_of, result_shape, FitsShape}
 use Rattle.ven_base.specs.Place.{place_within, place_round, IsCut}
+use Rattle.ven_base.specs.Grid.{Grid, IsGrid, value_at, IsPointwise1, IsPointwise2, IsMapped}
 
 -- ---- wrapping
 
@@ -58,6 +62,14 @@ RoundsDown = (elem : Elem) (x y : ℤ) →
 abbrev pub CutsSums : Type 0
 CutsSums = (elem : Elem) (xs ys : List ℤ) → wrapped elem (wrapped elem (total_of xs) +ℤ wrapped elem (total_of ys)) ≡ wrapped elem (total_of (xs ++ ys))
 
+-- nor on how many parts it is cut into
+abbrev pub CutsSumsIntoParts : Type 0
+CutsSumsIntoParts = (elem : Elem) (parts : List (List ℤ)) → wrapped elem (total_of (map (λ part. wrapped elem (total_of part)) parts)) ≡ wrapped elem (total_of (flat_map (λ part. part) parts))
+
+-- a sum that begins at a number of the type and is wrapped at each step is the sum that is wrapped once
+abbrev pub WrapsEachStep : Type 0
+WrapsEachStep = (elem : Elem) (start : ℤ) (xs : List ℤ) → IsElement elem start → fold (λ sum x. wrapped elem (sum +ℤ x)) start xs ≡ wrapped elem (start +ℤ total_of xs)
+
 -- the least and the greatest of a list are values of it, and bounds
 abbrev pub ReachesBounds : Type 0
 ReachesBounds = (fold : Fold) (elem : Elem) (x : ℤ) (xs : List ℤ) → IsFolded fold elem (x ∷ xs) (folded fold elem (x ∷ xs))
@@ -103,6 +115,14 @@ CutsSections = (r0 nr sr c0 nc sc h w : ℕ) (shape : Extent) (r c i j : ℕ)
 abbrev pub FitsPieces : Type 0
 FitsPieces = (n first count step start size : ℕ) → IsCut n first count step → 1 ≤ size → start + size ≤ count → IsCut n (first + start * step) size step
 
+-- a piece of a stretch that begins at a whole block, row r * kr and column c * kc of the result, is a stretch of the operand from row r and column c on
+abbrev pub CutsStretches : Type 0
+CutsStretches = (kr kc : ℕ) (shape : Extent) (r c i j : ℕ) → 1 ≤ kr → 1 ≤ kc → source_of (Stretch kr kc) shape (r * kr + i) (c * kc + j) ≡ Some (r + i / kr, c + j / kc)
+
+-- and it fits, where the stretch of the whole operand does
+abbrev pub FitsStretches : Type 0
+FitsStretches = (kr kc : ℕ) (shape piece : Extent) → FitsShape (Stretch kr kc) shape → piece.rows ≤ shape.rows → piece.cols ≤ shape.cols → FitsShape (Stretch kr kc) piece
+
 -- a piece of a shift is a shift of as much more, and a piece of a rotation a rotation
 abbrev pub CutsShifts : Type 0
 CutsShifts = (dr dc fill : ℤ) (shape : Extent) (r c i j : ℕ) → source_of (Shift (pos r +ℤ dr) (pos c +ℤ dc) fill) shape i j ≡ source_of (Shift dr dc fill) shape (r + i) (c + j)
@@ -113,3 +133,19 @@ CutsRotations = (dr dc : ℤ) (shape : Extent) (r c i j : ℕ) → source_of (Ro
 -- a stretch repeats each element over a block of kr rows and kc columns
 abbrev pub RepeatsBlocks : Type 0
 RepeatsBlocks = (kr kc : ℕ) (shape : Extent) (i j r c : ℕ) → r < kr → c < kc → source_of (Stretch kr kc) shape (i * kr + r) (j * kc + c) ≡ Some (i, j)
+
+-- ---- arrays
+
+-- two arrays of one type and one shape with one value at each index are one
+abbrev pub HasOneArray : Type 0
+HasOneArray = (a b : Grid) → IsGrid a → IsGrid b → a.elem ≡ b.elem → a.shape ≡ b.shape → ((i j : ℕ) → IsIndex a.shape i j → value_at a i j ≡ value_at b i j) → a ≡ b
+
+-- so an operation at each index gives one array, and a mapping does
+abbrev pub HasOnePointwise1 : Type 0
+HasOnePointwise1 = (op : Op1) (operand a b : Grid) → IsGrid a → IsGrid b → IsPointwise1 op operand a → IsPointwise1 op operand b → a ≡ b
+
+abbrev pub HasOnePointwise2 : Type 0
+HasOnePointwise2 = (op : Op2) (left right a b : Grid) → IsGrid a → IsGrid b → IsPointwise2 op left right a → IsPointwise2 op left right b → a ≡ b
+
+abbrev pub HasOneMapped : Type 0
+HasOneMapped = (mapping : Mapping) (operand a b : Grid) → IsGrid a → IsGrid b → IsMapped mapping operand a → IsMapped mapping operand b → a ≡ b

@@ -1,9 +1,8 @@
 -- Lists of pairs of a name and an array, the names distinct.
-use Rattle.std.specs.Prelude.{ℕ, ◌<◌, ◌^◌, List, length, All, Option, map}
+use Rattle.std.specs.Prelude.{ℕ, ◌<◌, ◌^◌, ◌≢◌, List, length, All, Option, map}
 use Rattle.std.specs.Map.{keys_of, lookup}
 use Rattle.std.specs.List.{AllPairs}
 use Rattle.std.specs.Str.{bytes_eq}
-use Rattle.std.specs.Prelude.{◌≢◌}
 use Rattle.ven_base.specs.Name.{IsName}
 use Rattle.ven_base.specs.Grid.{Grid, IsGrid}
 

@@ -1,5 +1,5 @@
 //! Laws of the definitions, each the contract of a function that does nothing.
-ghost use Rattle.ven_base.specs.Laws.{WrapsToOne, KeepsElements, WrapsOnce, WrapsSums, WrapsDifferences, WrapsProducts, ReducesAmounts, ReducesBits, RoundsDown, CutsSums, ReachesBounds, HasOneReduction, JoinsReductions, ReducesInType, GoesRound, FindsPlaces, SourcesAreInside, ResultsAreShapes, CutsSections, FitsPieces, CutsShifts, CutsRotations, RepeatsBlocks};
+ghost use Rattle.ven_base.specs.Laws.{WrapsToOne, KeepsElements, WrapsOnce, WrapsSums, WrapsDifferences, WrapsProducts, ReducesAmounts, ReducesBits, RoundsDown, CutsSums, CutsSumsIntoParts, WrapsEachStep, ReachesBounds, HasOneReduction, JoinsReductions, ReducesInType, GoesRound, FindsPlaces, SourcesAreInside, ResultsAreShapes, CutsSections, FitsPieces, CutsStretches, FitsStretches, CutsShifts, CutsRotations, RepeatsBlocks, HasOneArray, HasOnePointwise1, HasOnePointwise2, HasOneMapped};
 
 /// What holds of wrapping: it is a function, it keeps the type's numbers, and sums, differences and products may be
 /// wrapped at each step or once.
@@ -21,9 +21,12 @@ pub fn operation_laws()
 {}
 
 /// What holds of reductions: each list of at least one value has one, and no list has two; where the values are numbers of
-/// the type, so is the reduction; and the reductions of a list's parts make that of the whole.
+/// the type, so is the reduction; the reductions of a list's parts make that of the whole; and a sum is the same for any cut
+/// into parts, and wrapped at each step or once.
 pub fn reduction_laws()
     ensures cuts_sums { CutsSums }
+    ensures cuts_into_parts { CutsSumsIntoParts }
+    ensures wraps_each_step { WrapsEachStep }
     ensures reaches_bounds { ReachesBounds }
     ensures has_one { HasOneReduction }
     ensures joins { JoinsReductions }
@@ -38,14 +41,25 @@ pub fn place_laws()
 {}
 
 /// What holds of index maps: sources lie in the operand, results have a shape, a stretch repeats each element over a block,
-/// and the sources of a piece of a section's, a shift's or a rotation's result are those of one that begins further on.
-/// Such a section fits.
+/// and the sources of a piece of a section's, a stretch's, a shift's or a rotation's result are those of one that begins
+/// further on, a stretch's at a whole block. Such a section or stretch fits.
 pub fn mapping_laws()
     ensures inside { SourcesAreInside }
     ensures shapes { ResultsAreShapes }
     ensures sections { CutsSections }
     ensures pieces_fit { FitsPieces }
+    ensures stretches { CutsStretches }
+    ensures stretches_fit { FitsStretches }
     ensures shifts { CutsShifts }
     ensures rotations { CutsRotations }
     ensures blocks { RepeatsBlocks }
+{}
+
+/// What holds of arrays: one type, one shape and one value at each index make one array, so an operation at each index
+/// gives one, and a mapping does.
+pub fn array_laws()
+    ensures one_array { HasOneArray }
+    ensures one_pointwise1 { HasOnePointwise1 }
+    ensures one_pointwise2 { HasOnePointwise2 }
+    ensures one_mapped { HasOneMapped }
 {}

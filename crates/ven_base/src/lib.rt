@@ -24,7 +24,9 @@ pub use array::Array;
 pub use arrays::Arrays;
 pub use elem::Elem;
 pub use entry::Entry;
-pub use laws::{mapping_laws, operation_laws, place_laws, reduction_laws, wrapping_laws};
+pub use laws::{
+    array_laws, mapping_laws, operation_laws, place_laws, reduction_laws, wrapping_laws,
+};
 pub use mapping::Mapping;
 pub use name::{
     NAME_LIMIT, Name, is_digit, is_name_byte, is_name_start, is_name_token, is_reserved,

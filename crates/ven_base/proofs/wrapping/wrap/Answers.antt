@@ -1,4 +1,4 @@
-use Rattle.std.proofs.Common.{◌≡◌, ◌∙◌, ◌^◌, ◌%◌, ap, sym, subst, arith, rules, refl, w64, pos, of_z}
+use Rattle.std.proofs.Common.{◌∙◌, ◌^◌, ◌%◌, ap, sym, subst, arith, rules, refl, w64, pos, of_z}
 use Rattle.std.specs.Prelude.{ℤ, FitsSigned}
 use Rattle.std.specs.Int.{w128}
 use Rattle.std.proofs.lemmas.Int.{to_z-of_z}

@@ -1,4 +1,4 @@
-use Rattle.std.proofs.Common.{◌≡◌, ◌∙◌, ◌^◌, ◌%◌, ap, arith, rules, refl, w64, pos, of_z}
+use Rattle.std.proofs.Common.{◌∙◌, ◌^◌, ◌%◌, ap, arith, rules, refl, w64, pos, of_z}
 use Rattle.std.specs.Prelude.{FitsSigned}
 use Rattle.std.proofs.lemmas.Int.{to_z-of_z}
 use Rattle.ven_base.specs.Wrap.{wrapped}
