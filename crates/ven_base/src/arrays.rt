@@ -36,8 +36,8 @@ impl Arrays {
         }
     }
 
-    /// Appends the pair and gives true. Gives false, with nothing changed, where the name is there.
-    /// `AllocError`: nothing changed. There are fewer than 4,294,967,295 pairs before.
+    /// Appends the pair and gives true. Gives false exactly where the name is there: then nothing is changed, and the array
+    /// is dropped. `AllocError` where memory is wanting, with nothing changed. There are fewer than 4,294,967,295 pairs before.
     pub fn add(&mut self, name: Name, array: Array) -> Result<bool, AllocError>
         requires { length self.old < 2 ^ 32 - 1 }
         ensures added { IfOk result (λ added. IsTrue added → self.new ≡ self.old ++ (name, array) ∷ []) }
@@ -64,7 +64,7 @@ impl Arrays {
         self.pairs.get(name)
     }
 
-    /// The number of pairs.
+    /// The number of pairs, below 4,294,967,296.
     pub fn len(&self) -> u32
         ensures value { result ≡ length self.now }
         ensures pairs { ArePairs self.now }

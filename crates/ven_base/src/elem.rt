@@ -1,21 +1,27 @@
-//! The element types.
+//! The element types (docs/LANGUAGE.md, "Element types").
 ghost use Rattle.std.specs.Prelude.{◌≡◌, ◌↔◌, ◌+ℤ◌, pos, IsTrue};
 
 /// The type of an array's elements: unsigned or signed whole numbers of 8, 16 or 32 bits.
 #[derive(Clone, Copy, Debug, PartialEq, Eq, Hash)]
 pub enum Elem {
+    /// 0 to 255.
     U8,
+    /// -128 to 127.
     I8,
+    /// 0 to 65,535.
     U16,
+    /// -32,768 to 32,767.
     I16,
+    /// 0 to 4,294,967,295.
     U32,
+    /// -2,147,483,648 to 2,147,483,647.
     I32,
 }
 
 impl Elem {
     ghost use Rattle.ven_base.specs.Elem.{size_of, width_of, modulus_of, least_of, IsElement};
 
-    /// The size of an element in bytes.
+    /// The size of an element in bytes: 1, 2 or 4.
     pub fn size(self) -> u32
         ensures { result ≡ size_of self }
     {
@@ -26,7 +32,7 @@ impl Elem {
         }
     }
 
-    /// The width of an element in bits.
+    /// The width of an element in bits: 8, 16 or 32.
     pub fn width(self) -> u32
         ensures { result ≡ width_of self }
     {
@@ -44,7 +50,7 @@ impl Elem {
         }
     }
 
-    /// The least number of the type.
+    /// The least number of the type: 0, or half the modulus below 0.
     pub fn least(self) -> i64
         ensures { result ≡ least_of self }
     {

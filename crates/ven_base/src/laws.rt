@@ -1,4 +1,4 @@
-//! Laws of the definitions, each the contract of a function that does nothing.
+//! Laws of the definitions, each the contract of a function that does nothing. A caller of the function may use them.
 ghost use Rattle.ven_base.specs.Laws.{WrapsToOne, KeepsElements, WrapsOnce, WrapsSums, WrapsDifferences, WrapsProducts, ReducesAmounts, ReducesBits, RoundsDown, CutsSums, CutsSumsIntoParts, WrapsEachStep, ReachesBounds, HasOneReduction, JoinsReductions, ReducesInType, GoesRound, FindsPlaces, SourcesAreInside, ResultsAreShapes, CutsSections, FitsPieces, CutsStretches, FitsStretches, CutsShifts, CutsRotations, RepeatsBlocks, HasOneArray, HasOnePointwise1, HasOnePointwise2, HasOneMapped};
 
 /// What holds of wrapping: it is a function, it keeps the type's numbers, and sums, differences and products may be

@@ -5,23 +5,27 @@ ghost use Rattle.ven_base.specs.Place.{IsMove, IsCut, place_within as place_insi
 
 use crate::{ELEMENT_LIMIT, Shape};
 
-/// A map of indices. The element at (i, j) of its result is an element of its operand, or a fill.
+/// A map of indices. The element at (i, j) of its result, row i and column j from 0 on, is an element of its operand, or a
+/// fill.
 #[derive(Clone, Copy, Debug, PartialEq, Eq, Hash)]
 pub enum Mapping {
-    /// The operand itself.
+    /// The operand itself: element (i, j), in the operand's shape.
     Identity,
-    /// The element `dr` rows down and `dc` columns right, and the fill where that leaves the operand.
+    /// The element `dr` rows down and `dc` columns right, (i + dr, j + dc), and `fill` where that leaves the operand.
+    /// The result has the operand's shape.
     Shift {
         dr: i64,
         dc: i64,
         fill: i64,
     },
-    /// The element `dr` rows down and `dc` columns right, going round at the ends.
+    /// The element `dr` rows down and `dc` columns right, going round at the ends: i + dr modulo the rows and j + dc modulo
+    /// the columns, never negative. The result has the operand's shape.
     Rotate {
         dr: i64,
         dc: i64,
     },
-    /// `nr` rows from row `r0` on in steps of `sr`, and of these `nc` columns from `c0` on in steps of `sc`.
+    /// `nr` rows from row `r0` on in steps of `sr`, and of these `nc` columns from `c0` on in steps of `sc`: element
+    /// (r0 + i·sr, c0 + j·sc), in `nr` rows and `nc` columns.
     Section {
         r0: u32,
         nr: u32,
@@ -30,7 +34,8 @@ pub enum Mapping {
         nc: u32,
         sc: u32,
     },
-    /// Each row `kr` times, and each column `kc` times.
+    /// Each row `kr` times, and each column `kc` times: element (i / kr, j / kc), in `kr` times the rows and `kc` times the
+    /// columns.
     Stretch {
         kr: u32,
         kc: u32,

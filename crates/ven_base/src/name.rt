@@ -1,4 +1,4 @@
-//! Names of arrays, and the bytes and words that may be one.
+//! Names of arrays, and the bytes and words that may be one (docs/LANGUAGE.md, "Tokens" and "Names").
 ghost use Rattle.std.specs.Prelude.{◌≡◌, ◌↔◌, IsTrue, IfSome, IsSome, Contains, map, nat_eq};
 ghost use Rattle.std.specs.List.{list_any, list_all};
 ghost use Rattle.std.specs.Str.{bytes_eq};
@@ -23,7 +23,7 @@ const RESERVED: [&[u8]; 23] = [
     b"rotate", b"section", b"stretch",
 ];
 
-/// The name of an array: a name token of at most 31 bytes that is no reserved word.
+/// The name of an array: a name token of 1 to 31 bytes that is no reserved word. Names are compared byte by byte.
 #[derive(Clone, Copy)]
 pub struct Name {
     bytes: [u8; 31],
@@ -49,7 +49,7 @@ impl Model for Name {
 }
 
 impl Name {
-    /// The name with these bytes: `None` where they are no name token, more than 31, or a reserved word.
+    /// The name with these bytes: `None` exactly where they are no name token, more than 31, or a reserved word.
     pub fn from_bytes(bytes: &[u8]) -> Option<Name>
         ensures found { IsSome result ↔ IsName bytes.now }
         ensures value { IfSome result (λ name. name ≡ bytes.now) }
@@ -111,7 +111,8 @@ fn are_name_bytes(bytes: &[u8]) -> bool
     bytes.iter().all(|byte| is_name_byte(*byte))
 }
 
-/// Whether the bytes are a word that the array language keeps for itself.
+/// Whether the bytes are a word that the array language keeps for itself: one of the 23 of statements, element types and
+/// functions.
 pub fn is_reserved(bytes: &[u8]) -> bool
     ensures { IsTrue result ↔ IsReserved bytes.now }
 {

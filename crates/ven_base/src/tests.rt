@@ -1,3 +1,4 @@
+mod laws;
 mod mappings;
 mod numbers;
 mod values;

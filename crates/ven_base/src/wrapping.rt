@@ -1,4 +1,4 @@
-//! Wrapping: how a whole number becomes one of an element type, and which bits it has there (docs/LANGUAGE.md).
+//! Wrapping: how a whole number becomes one of an element type (docs/LANGUAGE.md, "Element types"), and its bits there.
 ghost use Rattle.std.specs.Prelude.{◌≡◌, ◌<◌, ◌^◌, ◌%◌, pos};
 ghost use Rattle.std.specs.Int.{w64, cast_unsigned};
 ghost use Rattle.ven_base.specs.Elem.{modulus_of};
@@ -7,7 +7,7 @@ ghost use Rattle.ven_base.specs.Wrap.{IsWrapped, wrapped};
 
 use crate::Elem;
 
-/// The number of the type's range that equals `n` modulo 2 to the type's width.
+/// The number of the type's range that equals `n` modulo 2 to the type's width in bits.
 #[inline]
 pub fn wrap(elem: Elem, n: i128) -> i64
     ensures is_wrapped { IsWrapped elem n result }
@@ -24,7 +24,8 @@ pub(crate) fn wrap_word(elem: Elem, n: i64) -> i64
     number_of(elem, low_bits(n))
 }
 
-/// The bits of `n` in the type, as its two's complement of the type's width: a number below 2 to the width, for every `n`.
+/// The bits of `n`, as its two's complement of the type's width: the number from 0 on, below 2 to the width, that equals `n`
+/// modulo 2 to the width. `n` may be any number.
 #[inline]
 pub fn bits_of(elem: Elem, n: i64) -> u32
     ensures value { result ≡ bits_of elem n }

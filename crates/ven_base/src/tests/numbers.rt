@@ -3,7 +3,7 @@
 use crate::Elem::{self, I8, I16, I32, U8, U16, U32};
 use crate::Op1::{Abs, Neg, Not};
 use crate::Op2::{self, Add, And, Eq, Ge, Gt, Le, Lt, Max, Min, Mul, Ne, Or, Shl, Shr, Sub, Xor};
-use crate::{apply1, apply2, wrap};
+use crate::{apply1, apply2, bits_of, wrap};
 
 static WRAPS: [(Elem, i128, i64); 48] = [
     (U8, 0, 0),
@@ -61,6 +61,29 @@ fn wraps_at_the_ends_of_every_range(rt: HostRuntime) {
     for row in &WRAPS {
         let (elem, n, want) = *row;
         assert_eq!(rt; wrap(elem, n), want, "{n}");
+    }
+}
+
+static BITS: [(Elem, i64, u32); 12] = [
+    (U8, 255, 255),
+    (U8, -1, 255),
+    (U8, 256, 0),
+    (I8, -128, 128),
+    (I8, 127, 127),
+    (U16, 65535, 65535),
+    (I16, -2, 65534),
+    (I16, i64::MIN, 0),
+    (U32, 4294967295, 4294967295),
+    (U32, -4294967295, 1),
+    (I32, -2147483648, 2147483648),
+    (I32, i64::MAX, 4294967295),
+];
+
+#[test]
+fn gives_the_bits_of_every_number(rt: HostRuntime) {
+    for row in &BITS {
+        let (elem, n, want) = *row;
+        assert_eq!(rt; bits_of(elem, n), want, "{n}");
     }
 }
 

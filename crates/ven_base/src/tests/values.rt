@@ -90,6 +90,8 @@ fn keeps_arrays_in_order_and_by_name(rt: HostRuntime) -> Result<(), Fail> {
     assert_eq!(rt; arrays.array(1).values.as_slice(), [-128].as_slice());
     let found = arrays.get(&second).expect(&rt, "an array");
     assert_eq!(rt; found.values.as_slice(), [1, 2, 255].as_slice());
+    assert!(rt; found.shape.rows == 1 && found.shape.cols == 3);
+    assert_eq!(rt; found.value(0, 2), 255);
     let absent = Name::from_bytes(b"third").expect(&rt, "a name");
     assert!(rt; arrays.get(&absent).is_none());
     Ok(())
