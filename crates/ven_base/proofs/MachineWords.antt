@@ -33,7 +33,7 @@ pub of_z-AreCongruent : (w : Width) (n : ℤ) → 2 ^ hbits w ≤ 2 ^ bits w →
 of_z-AreCongruent w (pos a) l f = AreCongruent-refl (2 ^ bits w) (pos a)
 of_z-AreCongruent w (negsuc a) l f = (negsuc 0, below_zero (2 ^ bits w) a (omega (arith, f.sfits)))
 
--- the number of 2 to the width's that a type's 2 to the width goes into 2 to the 32
+-- how often 2 to a type's width goes into 2 to the 32
 words_of : (elem : Elem) → (d : ℕ) × (d * modulus_of elem ≡ 2 ^ 32)
 words_of U8 = (2 ^ 24, refl)
 words_of I8 = (2 ^ 24, refl)

@@ -1,3 +1,4 @@
+//! Values from outside, and calls of what only clauses speak of.
 mod laws;
 mod mappings;
 mod numbers;
