@@ -21,7 +21,8 @@ use Rattle.venice_isa.specs.Mode.{uses_b, is_conditional, allows_mode}
 use Rattle.venice_isa.specs.Whole.{number_of_a, number_of_b, result_at, is_left_alone, new_element, flag_for, sum_of_results}
 use Rattle.venice_isa.specs.Beat.{new_elements}
 use Rattle.venice_isa.proofs.Overwrites.{overwritten_length, overwritten_nothing}
-use Rattle.venice_isa.proofs.OneBeat.{same_slot, group_end}
+use Rattle.venice_isa.proofs.OneBeat.{group_end}
+use Rattle.venice_isa.proofs.Wholes.{same_slot}
 use Rattle.venice_isa.proofs.Wholes.{size_positive, columns_without_sum}
 use Rattle.venice_isa.proofs.Beats.{element_length, elements_length, sum_on}
 use Rattle.venice_isa.proofs.Results.{result_in_type}

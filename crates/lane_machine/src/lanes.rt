@@ -105,7 +105,7 @@ impl Unit for Lanes {
     ghost use Rattle.venice_isa.specs.Footprint.{ReadsCell, WritesCell, ReadsMemory, WritesMemory};
     ghost use Rattle.venice_isa.specs.Whole.{HasCounts};
     ghost use Rattle.venice_isa.specs.Beat.{Progress as LaneProgress, not_begun as no_beat, vector_beats, vector_beat, progress_after as lane_progress_after};
-    ghost use Rattle.lane_machine.specs.Laws.{beat_writes, beat_reads, some_beat};
+    ghost use Rattle.lane_machine.specs.Laws.{footprint_ends, beat_writes, beat_reads, some_beat};
 
     ghost Progress = { LaneProgress };
 
@@ -135,13 +135,15 @@ impl Unit for Lanes {
 
     ghost progress_after = { λ lanes work progress cells memory. lane_progress_after work lanes progress cells };
 
-    ghost queue = { λ lanes. lanes.works };
+    ghost places = { 4 };
 
-    ghost places = { λ lanes. 4 };
+    ghost queue = { λ lanes. lanes.works };
 
     ghost progress = { λ lanes. lanes.progress };
 
     ghost setting = { λ lanes. lanes.lanes };
+
+    ghost has_an_end = { footprint_ends };
 
     ghost writes_its_footprint = { beat_writes };
 

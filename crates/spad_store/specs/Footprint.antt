@@ -11,10 +11,9 @@ pub record WritesOnly {A : Type 0} (writes : ℕ → Type 0) (before after : Lis
   pub same_length : length after ≡ length before
   pub kept : (p : ℕ) → ¬ writes p → slice_get after p ≡ slice_get before p
 
--- two lists are of one length, and have the same at each place that is read
-pub record AgreesOn {A : Type 0} (reads : ℕ → Type 0) (first second : List A) : Type 0 where
-  pub same_length : length second ≡ length first
-  pub same : (p : ℕ) → reads p → slice_get second p ≡ slice_get first p
+-- two lists, which need not be as long, have the same at each place that is read
+abbrev pub AgreesOn : {A : Type 0} → (reads : ℕ → Type 0) → (first second : List A) → Type 0
+AgreesOn reads first second = (p : ℕ) → reads p → slice_get second p ≡ slice_get first p
 
 -- of two lists that change, each place gets the same in both, or is left alone in both
 abbrev pub ChangesAlike : {A : Type 0} → (first first_after second second_after : List A) → Type 0

@@ -50,10 +50,11 @@ pub trait Unit {
 
     ghost progress_after: { Setting → Self.Work → Progress → List Cell → List ℕ → Progress };
 
-    /// The works of the queue, the current one first, and how many places it has.
-    ghost queue: { Self → List Self.Work };
+    /// How many places the queue has.
+    ghost places: { ℕ };
 
-    ghost places: { Self → ℕ };
+    /// The works of the queue, the current one first.
+    ghost queue: { Self → List Self.Work };
 
     /// How far the queue's first work has come.
     ghost progress: { Self → Progress };
@@ -65,19 +66,18 @@ pub trait Unit {
     fn offer(&mut self, work: Self::Work) -> Result<(), Self::Work>
         requires { has_counts work }
 
-        ensures full { IsErr result ↔ (length (queue self.old) ≡ places self.old) }
+        ensures full { IsErr result ↔ (length (queue self.old) ≡ places) }
         ensures given_back { IfErr result (λ back. back ≡ work) }
         ensures unchanged { OnErr result (self.new ≡ self.old) }
 
         ensures taken { OnOk result (queue self.new ≡ queue self.old ++ work ∷ []) }
         ensures same_progress { OnOk result (progress self.new ≡ progress self.old) }
-        ensures same_setting { setting self.new ≡ setting self.old }
-        ensures same_places { places self.new ≡ places self.old };
+        ensures same_setting { setting self.new ≡ setting self.old };
 
     /// The number of works in the queue, the current one among them.
     fn unfinished(&self) -> u32
         ensures count { result ≡ length (queue self.now) }
-        ensures in_order { IsQueue has_counts (places self.now) (beats (setting self.now)) done not_begun (queue self.now) (progress self.now) }
+        ensures in_order { IsQueue has_counts places (beats (setting self.now)) done not_begun (queue self.now) (progress self.now) }
         ensures setting { can_have (setting self.now) };
 
     /// A work of the queue, counted from 0 at its front.
@@ -104,31 +104,36 @@ pub trait Unit {
         ensures ends { IfSome (slice_get (queue self.old) 0) (λ work. done (progress self.old) + 1 ≡ beats (setting self.old) work →
             (queue self.new ≡ drop 1 (queue self.old)) × (progress self.new ≡ not_begun)) }
 
-        ensures same_setting { setting self.new ≡ setting self.old }
-        ensures same_places { places self.new ≡ places self.old };
+        ensures same_setting { setting self.new ≡ setting self.old };
+
+    /// A work's footprint is of bytes below some place, so that there are stores that it lies in.
+    ghost has_an_end: { (work : Self.Work) → has_counts work →
+        (end : ℕ) × TouchesBelow (reads_cell work) (writes_cell work) end × TouchesBelow (reads_memory work) (writes_memory work) end };
 
     /// A beat changes only bytes of the work's write footprint.
-    ghost writes_its_footprint: { (setting : Setting) (work : Self.Work) (progress : Progress) (cells : List Cell) (memory : List ℕ) →
-        can_have setting → has_counts work → done progress < beats setting work →
+    ghost writes_its_footprint: { (made : Setting) (work : Self.Work) (so_far : Progress) (cells : List Cell) (memory : List ℕ) →
+        can_have made → has_counts work → done so_far < beats made work →
         TouchesBelow (reads_cell work) (writes_cell work) (length cells) → TouchesBelow (reads_memory work) (writes_memory work) (length memory) →
-        WritesOnly (writes_cell work) cells (cells_after setting work progress cells memory) × WritesOnly (writes_memory work) memory (memory_after setting work progress cells memory) };
+        WritesOnly (writes_cell work) cells (cells_after made work so_far cells memory) × WritesOnly (writes_memory work) memory (memory_after made work so_far cells memory) };
 
     /// What a beat does, and how far it brings the work, depends only on the bytes of the work's
-    /// read footprint, on the work, on its progress and on what the unit was made with.
-    ghost reads_its_footprint: { (setting : Setting) (work : Self.Work) (progress : Progress) (cells cells' : List Cell) (memory memory' : List ℕ) →
-        can_have setting → has_counts work → done progress < beats setting work →
+    /// read footprint, on the work, on its progress and on what the unit was made with; so it is the
+    /// same in any two stores that the work lies in and that agree on those bytes.
+    ghost reads_its_footprint: { (made : Setting) (work : Self.Work) (so_far : Progress) (cells cells' : List Cell) (memory memory' : List ℕ) →
+        can_have made → has_counts work → done so_far < beats made work →
         TouchesBelow (reads_cell work) (writes_cell work) (length cells) → TouchesBelow (reads_memory work) (writes_memory work) (length memory) →
+        TouchesBelow (reads_cell work) (writes_cell work) (length cells') → TouchesBelow (reads_memory work) (writes_memory work) (length memory') →
         AgreesOn (reads_cell work) cells cells' → AgreesOn (reads_memory work) memory memory' →
-        ChangesAlike cells (cells_after setting work progress cells memory) cells' (cells_after setting work progress cells' memory')
-        × ChangesAlike memory (memory_after setting work progress cells memory) memory' (memory_after setting work progress cells' memory')
-        × (progress_after setting work progress cells' memory' ≡ progress_after setting work progress cells memory) };
+        ChangesAlike cells (cells_after made work so_far cells memory) cells' (cells_after made work so_far cells' memory')
+        × ChangesAlike memory (memory_after made work so_far cells memory) memory' (memory_after made work so_far cells' memory')
+        × (progress_after made work so_far cells' memory' ≡ progress_after made work so_far cells memory) };
 
     /// A beat brings the work one beat nearer to its end.
-    ghost comes_nearer: { (setting : Setting) (work : Self.Work) (progress : Progress) (cells : List Cell) (memory : List ℕ) →
-        done (progress_after setting work progress cells memory) ≡ done progress + 1 };
+    ghost comes_nearer: { (made : Setting) (work : Self.Work) (so_far : Progress) (cells : List Cell) (memory : List ℕ) →
+        done (progress_after made work so_far cells memory) ≡ done so_far + 1 };
 
     /// A work begins with no beat done, and has one to do.
     ghost begins: { done not_begun ≡ 0 };
 
-    ghost takes_a_beat: { (setting : Setting) (work : Self.Work) → can_have setting → has_counts work → 0 < beats setting work };
+    ghost takes_a_beat: { (made : Setting) (work : Self.Work) → can_have made → has_counts work → 0 < beats made work };
 }

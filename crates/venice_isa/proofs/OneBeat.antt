@@ -11,34 +11,23 @@ use Rattle.venice_isa.specs.declared.work.VecWork.{VecWork}
 use Rattle.venice_isa.specs.declared.region.Region.{Region}
 use Rattle.venice_isa.specs.declared.issue.Issue.TheVariants.{Vector}
 use Rattle.ven_base.specs.Cell.{Cell}
-use Rattle.venice_isa.specs.Cell.{cell_at, overwritten}
+use Rattle.venice_isa.specs.Cell.{overwritten}
 use Rattle.venice_isa.specs.Region.{place_in, IsAt, Covers, LiesBelow}
-use Rattle.venice_isa.specs.Footprint.{destination, ReadsCell}
+use Rattle.venice_isa.specs.Footprint.{source_a, source_b, destination, ReadsCell, WritesCell}
 use Rattle.venice_isa.specs.Whole.{new_element, sum_of_results, spelled_sum, HasCounts}
 use Rattle.venice_isa.specs.Beat.{Progress, lane_group, beats_of_row, vector_beats, group_at, lane_group_at, new_elements, sum_after, cells_after_sum, sum_left, cells_after_group, vector_beat, progress_after}
+use Rattle.venice_isa.proofs.Regions.{end_of, covered_below_end}
 use Rattle.venice_isa.proofs.Overwrites.{overwritten_length, overwritten_below, overwritten_in, overwritten_above}
-use Rattle.venice_isa.proofs.Wholes.{size_positive, ReadsFor, reads_for_is_read, columns_without_sum, same_new_element, same_sum}
+use Rattle.venice_isa.proofs.Wholes.{size_positive, ReadsFor, reads_for_is_read, columns_without_sum, same_slot, same_new_element, same_sum}
 use Rattle.venice_isa.proofs.Groups.{element_end}
 use Rattle.venice_isa.proofs.Counts.{some_beats, first_below, row_below}
 use Rattle.venice_isa.proofs.Beats.{some_group, spelled_length, elements_length}
 
 -- ---- lists
 
--- lists of one length have the same at a place, where they have the same there at a default
-pub same_slot : {A : Type 0} (d : A) (xs ys : List A) (p : ℕ) → length ys ≡ length xs → get_or ys p d ≡ get_or xs p d → slice_get ys p ≡ slice_get xs p
-same_slot d xs ys p long same =
-    elim (cases_lt p (length xs)) [
-      | inl below ↦ slice_get-get_or ys p d (omega (arith, long)) ∙ ap (λ x. Some x) same ∙ sym (slice_get-get_or xs p d below)
-      | inr past ↦ slice_get_past ys p (omega (arith, long)) ∙ sym (slice_get_past xs p past)
-    ]
-
-pub same_item : {A : Type 0} (d : A) (xs ys : List A) (p : ℕ) → slice_get ys p ≡ slice_get xs p → get_or ys p d ≡ get_or xs p d
-same_item d xs ys p same = sym (unwrap_or-slice_get ys p d) ∙ ap (λ slot. unwrap_or slot d) same ∙ unwrap_or-slice_get xs p d
-
--- two lists of one length over which the same is written at one place change alike
-pub written_alike : {A : Type 0} (d : A) (xs ys : List A) (place : ℕ) (new : List A) → place + length new ≤ length xs → length ys ≡ length xs → (p : ℕ) → (slice_get (overwritten ys place new) p ≡ slice_get (overwritten xs place new) p) ⊎ ((slice_get (overwritten xs place new) p ≡ slice_get xs p) × (slice_get (overwritten ys place new) p ≡ slice_get ys p))
-written_alike d xs ys place new inside long p =
-    let inside' : place + length new ≤ length ys = omega (arith, long) in
+-- two lists over which the same is written at one place change alike
+pub written_alike : {A : Type 0} (d : A) (xs ys : List A) (place : ℕ) (new : List A) → place + length new ≤ length xs → place + length new ≤ length ys → (p : ℕ) → (slice_get (overwritten ys place new) p ≡ slice_get (overwritten xs place new) p) ⊎ ((slice_get (overwritten xs place new) p ≡ slice_get xs p) × (slice_get (overwritten ys place new) p ≡ slice_get ys p))
+written_alike d xs ys place new inside inside' p =
     let xs' = overwritten xs place new in
     let ys' = overwritten ys place new in
     let xs_long : length xs' ≡ length xs = overwritten_length xs place new inside in
@@ -51,7 +40,7 @@ written_alike d xs ys place new inside long p =
             let in_new : k < length new = omega arith in
             let here : place + k ≡ p = omega arith in
             let same : get_or ys' (place + k) d ≡ get_or xs' (place + k) d = overwritten_in ys place new inside' d k in_new ∙ sym (overwritten_in xs place new inside d k in_new) in
-            inl (same_slot d xs' ys' p (omega (arith, xs_long, ys_long, long)) (subst (λ q. get_or ys' q d ≡ get_or xs' q d) here same))
+            inl (slice_get-get_or ys' p d (omega (arith, ys_long)) ∙ ap (λ x. Some x) (subst (λ q. get_or ys' q d ≡ get_or xs' q d) here same) ∙ sym (slice_get-get_or xs' p d (omega (arith, xs_long))))
         | inr above ↦ inr (same_slot d xs xs' p xs_long (overwritten_above xs place new inside d p above), same_slot d ys ys' p ys_long (overwritten_above ys place new inside' d p above))
       ]
     ]
@@ -89,6 +78,27 @@ module _ (region : Region) (some_bytes : 0 < region.size) (r first count : ℕ) 
             | inr above ↦ overwritten_above cells (place_in region r first) new inside d p above
           ]
         ]
+
+-- ---- the footprint
+
+-- every cell that an instruction reads or writes is below some place
+pub vector_end : VecWork → ℕ
+vector_end work = end_of (source_a work) + end_of (source_b work) + end_of (destination work)
+
+pub reads_below_end : (work : VecWork) (p : ℕ) → ReadsCell (Vector work) p → p < vector_end work
+unfolding vector_end
+reads_below_end work p reads =
+    elim reads [
+      | inl by_a ↦ omega (arith, covered_below_end (source_a work) p by_a.1)
+      | inr rest ↦ elim rest [
+        | inl by_b ↦ omega (arith, covered_below_end (source_b work) p by_b.2)
+        | inr old ↦ omega (arith, covered_below_end (destination work) p old.1)
+      ]
+    ]
+
+pub writes_below_end : (work : VecWork) (p : ℕ) → WritesCell (Vector work) p → p < vector_end work
+unfolding vector_end
+writes_below_end work p writes = omega (arith, covered_below_end (destination work) p writes)
 
 -- ---- a beat
 
@@ -186,20 +196,32 @@ module _ (work : VecWork) (lanes : ℕ) (progress : Progress) (some_lanes : 0 < 
         ]
 
     -- ---- other cells that agree on what is read
-    module _ (cells' : List Cell) (same : length cells' ≡ length cells) (agree : (p : ℕ) → ReadsCell (Vector work) p → slice_get cells' p ≡ slice_get cells p) where
-      agree_at : (r j p : ℕ) → ReadsFor work r j p → cell_at cells' p ≡ cell_at cells p
-      agree_at r j p read = same_item (0, false) cells cells' p (agree p (reads_for_is_read work r j p read))
+    module _ (cells' : List Cell) (inside' : LiesBelow (destination work) (length cells')) (agree : (p : ℕ) → ReadsCell (Vector work) p → slice_get cells' p ≡ slice_get cells p) where
+      agree_at : (r j p : ℕ) → ReadsFor work r j p → slice_get cells' p ≡ slice_get cells p
+      agree_at r j p read = agree p (reads_for_is_read work r j p read)
 
       same_elements : work.kind.acc ≡ false → (r j count : ℕ) → r < work.rows → j + count ≤ work.vl → new_elements work cells' r j count ≡ new_elements work cells r j count
       same_elements no_sum r j zero in_rows fits = refl
       same_elements no_sum r j (suc count) in_rows fits =
-          ap (λ new. new ++ new_elements work cells' r (j + 1) count) (same_new_element work cells cells' same r j in_rows (omega arith) (agree_at r j) no_sum)
+          ap (λ new. new ++ new_elements work cells' r (j + 1) count) (same_new_element work cells cells' r j in_rows (omega arith) (agree_at r j) no_sum)
           ∙ ap (λ rest. new_element work cells r j ++ rest) (same_elements no_sum r (j + 1) count in_rows (omega arith))
 
       same_sum_after : sum_after work progress cells' (lane_group_at work lanes progress) ≡ sum_after work progress cells (lane_group_at work lanes progress)
       same_sum_after =
           let group = lane_group_at work lanes progress in
-          ap (λ sum. progress.sum +ℤ sum) (same_sum work cells cells' same group.row group.first group.count group_row group_fits (λ i p from in_row read. agree_at group.row i p read))
+          ap (λ sum. progress.sum +ℤ sum) (same_sum work cells cells' group.row group.first group.count group_row group_fits (λ i p from in_row read. agree_at group.row i p read))
+
+      -- what is written lies in the other cells too
+      sum_in_other : work.kind.acc ≡ true → place_in (destination work) (lane_group_at work lanes progress).row 0 + length (spelled_sum work (sum_after work progress cells (lane_group_at work lanes progress))) ≤ length cells'
+      sum_in_other with_sum =
+          let end = group_end (destination work) (size_positive work.kind.elem) (lane_group_at work lanes progress).row 0 1 group_row (sum_fits with_sum) (length cells') inside' (omega arith) in
+          omega (arith, sum_long, end)
+
+      elements_in_other : work.kind.acc ≡ false → place_in (destination work) (lane_group_at work lanes progress).row (lane_group_at work lanes progress).first + length (new_elements work cells (lane_group_at work lanes progress).row (lane_group_at work lanes progress).first (lane_group_at work lanes progress).count) ≤ length cells'
+      elements_in_other no_sum =
+          let group = lane_group_at work lanes progress in
+          let end = group_end (destination work) (size_positive work.kind.elem) group.row group.first group.count group_row (columns_fit no_sum) (length cells') inside' group_some in
+          omega (arith, elements_long no_sum, end)
 
       -- two lists change alike
       abbrev Alike : List Cell → List Cell → Type 0
@@ -213,7 +235,7 @@ module _ (work : VecWork) (lanes : ℕ) (progress : Progress) (some_lanes : 0 < 
           let new' = spelled_sum work (sum_after work progress cells' group) in
           let place = place_in (destination work) group.row 0 in
           let ends = leb work.vl (group.first + group.count) in
-          let one : Alike (overwritten cells place new) (overwritten cells' place new) = written_alike (0, false) cells cells' place new (sum_inside with_sum) same in
+          let one : Alike (overwritten cells place new) (overwritten cells' place new) = written_alike (0, false) cells cells' place new (sum_inside with_sum) (sum_in_other with_sum) in
           let both : Alike (overwritten cells place new) (overwritten cells' place new') = subst (λ sum. Alike (overwritten cells place new) (overwritten cells' place (spelled_sum work sum))) (sym same_sum_after) one in
           elim (cases_Bool ends) [
             | inl holds ↦ subst (λ after. Alike after (cond ends (overwritten cells' place new') cells')) (sym (cond-true ends (overwritten cells place new) cells holds)) (subst (Alike (overwritten cells place new)) (sym (cond-true ends (overwritten cells' place new') cells' holds)) both)
@@ -227,7 +249,7 @@ module _ (work : VecWork) (lanes : ℕ) (progress : Progress) (some_lanes : 0 < 
           let new = new_elements work cells group.row group.first group.count in
           let place = place_in (destination work) group.row group.first in
           subst (λ other. Alike (overwritten cells place new) (overwritten cells' place other)) (sym (same_elements no_sum group.row group.first group.count group_row group_fits))
-          (written_alike (0, false) cells cells' place new (elements_inside no_sum) same)
+          (written_alike (0, false) cells cells' place new (elements_inside no_sum) (elements_in_other no_sum))
 
       pub beat_alike : (p : ℕ) → (slice_get (vector_beat work lanes progress cells') p ≡ slice_get (vector_beat work lanes progress cells) p) ⊎ ((slice_get (vector_beat work lanes progress cells) p ≡ slice_get cells p) × (slice_get (vector_beat work lanes progress cells') p ≡ slice_get cells' p))
       beat_alike =

@@ -10,6 +10,18 @@ use Rattle.venice_isa.specs.Region.{place_in, IsAt, Covers, LiesBelow, HasRowsAp
 pub item_fits : (i n size : ℕ) → i < n → i * size + size ≤ n * size
 item_fits i n size below = row_fits i size n size below (omega arith)
 
+-- a place that every byte of a region is below
+pub end_of : Region → ℕ
+end_of region = region.place + region.rows * region.step + region.columns * region.size
+
+pub covered_below_end : (region : Region) (p : ℕ) → Covers region p → p < end_of region
+unfolding end_of
+covered_below_end region p covered =
+    let at : IsAt region covered.0 covered.1 p = covered.2 in
+    let step_on : covered.0 * region.step + region.step ≤ region.rows * region.step = item_fits covered.0 region.rows region.step at.row in
+    let in_row : covered.1 * region.size + region.size ≤ region.columns * region.size = item_fits covered.1 region.columns region.size at.column in
+    omega (arith, at.below)
+
 module _ (region : Region) (rows_apart : HasRowsApart region) (p r j r' j' : ℕ) (at : IsAt region r j p) (at' : IsAt region r' j' p) where
   not_before : ¬ (r < r')
   not_before before =

@@ -1,7 +1,9 @@
 -- What a vector instruction's effect depends on, and that it is determined.
-use Rattle.std.proofs.Common.{◌⊎◌, ◌≡◌, ℕ, zero, suc, ◌+◌, ◌-◌, ◌<◌, ◌≤◌, inl, inr, ap, sym, ◌∙◌, subst, refl, arith, List, length, get_or, drop, min, Bool, true, false, cond, ℤ, ◌+ℤ◌, not, ◌&&◌, map, lit<}
-use Rattle.std.proofs.lemmas.Bool.{cases_Bool, true≢false, false≢true, and_parts, cond-false}
+use Rattle.std.proofs.Common.{◌⊎◌, ◌≡◌, ℕ, zero, suc, ◌+◌, ◌-◌, ◌<◌, ◌≤◌, inl, inr, ap, sym, ◌∙◌, subst, refl, arith, List, length, get_or, drop, min, Bool, true, false, cond, ℤ, ◌+ℤ◌, not, ◌&&◌, map, lit<, Some}
+use Rattle.std.specs.Prelude.{slice_get, unwrap_or}
+use Rattle.std.proofs.lemmas.Bool.{cases_lt, cases_Bool, true≢false, false≢true, and_parts, cond-false}
 use Rattle.std.proofs.lemmas.List.{ext_get_or, length-take, length-drop, get_or-take, get_or-drop}
+use Rattle.std.proofs.lemmas.Option.{slice_get-get_or, slice_get_past, slice_get_within, unwrap_or-slice_get}
 use Rattle.ven_base.specs.declared.elem.Elem.{Elem}
 use Rattle.ven_base.specs.declared.elem.Elem.TheVariants.{U8, I8, U16, I16, U32, I32}
 use Rattle.ven_base.specs.Elem.{size_of}
@@ -29,18 +31,65 @@ part_length xs place count = simp (length-take, length-drop)
 pub part_at : {A : Type 0} (d : A) (xs : List A) (place count k : ℕ) → k < count → get_or (part xs place count) k d ≡ get_or xs (place + k) d
 part_at d xs place count k below = get_or-take count (drop place xs) k d below ∙ get_or-drop place xs k d
 
--- two lists of one length have one part where they agree there
-pub same_part : {A : Type 0} (d : A) (xs ys : List A) (place count : ℕ) → length ys ≡ length xs → ((p : ℕ) → place ≤ p → p < place + count → get_or ys p d ≡ get_or xs p d) → part ys place count ≡ part xs place count
-same_part d xs ys place count same agree =
-    let one_length : length (part ys place count) ≡ length (part xs place count) = part_length ys place count ∙ ap (λ n. min count (n - place)) same ∙ sym (part_length xs place count) in
+-- lists of one length have the same at a place, where they have the same there at a default
+pub same_slot : {A : Type 0} (d : A) (xs ys : List A) (p : ℕ) → length ys ≡ length xs → get_or ys p d ≡ get_or xs p d → slice_get ys p ≡ slice_get xs p
+same_slot d xs ys p long same =
+    elim (cases_lt p (length xs)) [
+      | inl below ↦ slice_get-get_or ys p d (omega (arith, long)) ∙ ap (λ x. Some x) same ∙ sym (slice_get-get_or xs p d below)
+      | inr past ↦ slice_get_past ys p (omega (arith, long)) ∙ sym (slice_get_past xs p past)
+    ]
+
+pub same_item : {A : Type 0} (d : A) (xs ys : List A) (p : ℕ) → slice_get ys p ≡ slice_get xs p → get_or ys p d ≡ get_or xs p d
+same_item d xs ys p same = sym (unwrap_or-slice_get ys p d) ∙ ap (λ slot. unwrap_or slot d) same ∙ unwrap_or-slice_get xs p d
+
+-- where two lists have the same at a place, both reach it or neither does
+reaches : {A : Type 0} (d : A) (xs ys : List A) (p : ℕ) → slice_get ys p ≡ slice_get xs p → p < length xs → p < length ys
+reaches d xs ys p same below = slice_get_within ys p (get_or xs p d) (same ∙ slice_get-get_or xs p d below)
+
+-- so their parts are as long
+same_reach : (place count m n : ℕ) → ((p : ℕ) → place ≤ p → p < place + count → p < m → p < n) → ((p : ℕ) → place ≤ p → p < place + count → p < n → p < m) → min count (n - place) ≡ min count (m - place)
+same_reach place zero m n there back = omega arith
+same_reach place (suc count) m n there back =
+    elim (cases_lt place m) [
+      | inl some ↦
+          let some' : place < n = there place (omega arith) (omega arith) some in
+          elim (cases_lt m n) [
+            | inl less ↦ elim (cases_lt m (place + suc count)) [
+              | inl within ↦ let wrong : m < m = back m (omega arith) within less in omega arith
+              | inr past ↦ omega arith
+            ]
+            | inr more ↦ elim (cases_lt n (place + suc count)) [
+              | inl within ↦ elim (cases_lt n m) [
+                | inl less ↦ let wrong : n < n = there n (omega arith) within less in omega arith
+                | inr same ↦ omega arith
+              ]
+              | inr past ↦ omega arith
+            ]
+          ]
+      | inr none ↦ elim (cases_lt place n) [
+        | inl some' ↦ let some : place < m = back place (omega arith) (omega arith) some' in omega arith
+        | inr none' ↦ omega arith
+      ]
+    ]
+
+-- two lists have one part where they have the same at each of its places
+pub part_of_slots : {A : Type 0} (d : A) (xs ys : List A) (place count : ℕ) → ((p : ℕ) → place ≤ p → p < place + count → slice_get ys p ≡ slice_get xs p) → part ys place count ≡ part xs place count
+part_of_slots d xs ys place count same =
+    let reached : (p : ℕ) → place ≤ p → p < place + count → p < length xs → p < length ys = λ p from below. reaches d xs ys p (same p from below) in
+    let reached' : (p : ℕ) → place ≤ p → p < place + count → p < length ys → p < length xs = λ p from below. reaches d ys xs p (sym (same p from below)) in
+    let one_length : length (part ys place count) ≡ length (part xs place count) = part_length ys place count ∙ same_reach place count (length xs) (length ys) reached reached' ∙ sym (part_length xs place count) in
     ext_get_or d (part ys place count) (part xs place count) one_length
     (λ k below. let in_part : k < count = omega (arith, part_length ys place count, below) in
-    part_at d ys place count k in_part ∙ agree (place + k) (omega arith) (omega arith) ∙ sym (part_at d xs place count k in_part))
+    part_at d ys place count k in_part ∙ same_item d xs ys (place + k) (same (place + k) (omega arith) (omega arith)) ∙ sym (part_at d xs place count k in_part))
+
+-- two lists of one length have one part where they agree there
+pub same_part : {A : Type 0} (d : A) (xs ys : List A) (place count : ℕ) → length ys ≡ length xs → ((p : ℕ) → place ≤ p → p < place + count → get_or ys p d ≡ get_or xs p d) → part ys place count ≡ part xs place count
+same_part d xs ys place count long same = part_of_slots d xs ys place count (λ p from below. same_slot d xs ys p long (same p from below))
 
 -- and so they have one number there
-same_number : (elem : Elem) (before before' : List Cell) (place : ℕ) → length before' ≡ length before → ((p : ℕ) → place ≤ p → p < place + size_of elem → cell_at before' p ≡ cell_at before p) → number_at elem before' place ≡ number_at elem before place
-same_number elem before before' place same agree =
-    ap (λ cells. number_of elem (map byte_of cells)) (same_part (0, false) before before' place (size_of elem) same agree)
+same_number : (elem : Elem) (before before' : List Cell) (place : ℕ) → ((p : ℕ) → place ≤ p → p < place + size_of elem → slice_get before' p ≡ slice_get before p) → number_at elem before' place ≡ number_at elem before place
+same_number elem before before' place same =
+    ap (λ cells. number_of elem (map byte_of cells)) (part_of_slots (0, false) before before' place (size_of elem) same)
 
 -- ---- what the operations look at
 
@@ -116,17 +165,17 @@ reads_for_is_read work r j p read =
       | inr rest ↦ elim rest [ inl by_b ↦ inr (inl (by_b.0, by_b.1, (r, j, by_b.2))) | inr old ↦ inr (inr (old.0, (r, j, old.1))) ]
     ]
 
-module _ (work : VecWork) (before before' : List Cell) (same : length before' ≡ length before) (r j : ℕ) (row : r < work.rows) (column : j < work.vl) (agree : (p : ℕ) → ReadsFor work r j p → cell_at before' p ≡ cell_at before p) where
+module _ (work : VecWork) (before before' : List Cell) (r j : ℕ) (row : r < work.rows) (column : j < work.vl) (agree : (p : ℕ) → ReadsFor work r j p → slice_get before' p ≡ slice_get before p) where
   same_a : number_of_a work before' r j ≡ number_of_a work before r j
   same_a =
       same_choice work.kind.a_scalar _ _ _ _ (λ scalar. refl)
-      (λ vector. same_number work.kind.from before before' (place_in (source_a work) r j) same
+      (λ vector. same_number work.kind.from before before' (place_in (source_a work) r j)
       (λ p from below. agree p (inl (vector, record { row = row; column = column; from = from; below = below }))))
 
   same_b : uses_b work.kind.op ≡ true → number_of_b work before' r j ≡ number_of_b work before r j
   same_b used =
       same_choice work.kind.b_scalar _ _ _ _ (λ scalar. refl)
-      (λ vector. same_number work.kind.elem before before' (place_in (source_b work) r j) same
+      (λ vector. same_number work.kind.elem before before' (place_in (source_b work) r j)
       (λ p from below. agree p (inr (inl (used, vector, record { row = row; column = column; from = from; below = below })))))
 
   pub same_result : result_at work before' r j ≡ result_at work before r j
@@ -143,7 +192,7 @@ module _ (work : VecWork) (before before' : List Cell) (same : length before' �
       elim (cases_Bool (uses_b work.kind.op)) [
         | inl used ↦ elim (cases_Bool work.kind.b_scalar) [
           | inl scalar ↦ no_flag_of_scalar work scalar (flag_of (cell_at before' (place_in (source_b work) r j))) (flag_of (cell_at before (place_in (source_b work) r j)))
-          | inr vector ↦ ap (λ cell. is_conditional work.kind.op && not (flag_of cell)) (agree (place_in (source_b work) r j) (inr (inl (used, vector, first_byte (source_b work) r j row column (size_positive work.kind.elem)))))
+          | inr vector ↦ ap (λ cell. is_conditional work.kind.op && not (flag_of cell)) (same_item (0, false) before before' (place_in (source_b work) r j) (agree (place_in (source_b work) r j) (inr (inl (used, vector, first_byte (source_b work) r j row column (size_positive work.kind.elem))))))
         ]
         | inr unused ↦ no_flag_without_b work.kind.op unused (flag_of (cell_at before' (place_in (source_b work) r j))) (flag_of (cell_at before (place_in (source_b work) r j)))
       ]
@@ -153,25 +202,25 @@ module _ (work : VecWork) (before before' : List Cell) (same : length before' �
   same_new_element no_sum =
       ap (λ alone. cond alone (part before' (place_in (destination work) r j) (size_of work.kind.elem)) (element_of work before' r j)) same_left_alone
       ∙ same_choice (is_left_alone work before r j) _ _ _ _
-      (λ alone. same_part (0, false) before before' (place_in (destination work) r j) (size_of work.kind.elem) same
+      (λ alone. part_of_slots (0, false) before before' (place_in (destination work) r j) (size_of work.kind.elem)
       (λ p from below. agree p (inr (inr (conditional_from work before r j alone, record { row = row; column = rw (columns_without_sum work no_sum) column; from = from; below = below })))))
       (λ moved. ap (λ result. spelled work.kind.elem result (flag_for work.kind result)) same_result)
 
 -- the results of a part of a row add up to the same
-pub same_sum : (work : VecWork) (before before' : List Cell) → length before' ≡ length before → (r j count : ℕ) → r < work.rows → j + count ≤ work.vl → ((i p : ℕ) → j ≤ i → i < work.vl → ReadsFor work r i p → cell_at before' p ≡ cell_at before p) → sum_of_results work before' r j count ≡ sum_of_results work before r j count
-same_sum work before before' same r j zero row columns agree = refl
-same_sum work before before' same r j (suc count) row columns agree =
-    ap (λ result. result +ℤ sum_of_results work before' r (j + 1) count) (same_result work before before' same r j row (omega arith) (λ p. agree j p (omega arith) (omega arith)))
-    ∙ ap (λ sum. result_at work before r j +ℤ sum) (same_sum work before before' same r (j + 1) count row (omega arith) (λ i p from. agree i p (omega arith)))
+pub same_sum : (work : VecWork) (before before' : List Cell) (r j count : ℕ) → r < work.rows → j + count ≤ work.vl → ((i p : ℕ) → j ≤ i → i < work.vl → ReadsFor work r i p → slice_get before' p ≡ slice_get before p) → sum_of_results work before' r j count ≡ sum_of_results work before r j count
+same_sum work before before' r j zero row columns agree = refl
+same_sum work before before' r j (suc count) row columns agree =
+    ap (λ result. result +ℤ sum_of_results work before' r (j + 1) count) (same_result work before before' r j row (omega arith) (λ p. agree j p (omega arith) (omega arith)))
+    ∙ ap (λ sum. result_at work before r j +ℤ sum) (same_sum work before before' r (j + 1) count row (omega arith) (λ i p from. agree i p (omega arith)))
 
 -- ---- two lists of cells that agree on the read footprint
 
-module _ (work : VecWork) (before before' : List Cell) (same : length before' ≡ length before) (agree : (p : ℕ) → ReadsCell (Vector work) p → cell_at before' p ≡ cell_at before p) where
+module _ (work : VecWork) (before before' : List Cell) (same : (p : ℕ) → ReadsCell (Vector work) p → slice_get before' p ≡ slice_get before p) where
   same_after_work : (r j : ℕ) → r < work.rows → j < written_in_row work → after_work work before' r j ≡ after_work work before r j
   same_after_work r j row column =
       same_choice work.kind.acc _ _ _ _
-      (λ sum. ap (spelled_sum work) (same_sum work before before' same r 0 work.vl row (omega arith) (λ i p from in_row read. agree p (reads_for_is_read work r i p read))))
-      (λ no_sum. same_new_element work before before' same r j row (rw (columns_without_sum work no_sum) at column) (λ p read. agree p (reads_for_is_read work r j p read)) no_sum)
+      (λ sum. ap (spelled_sum work) (same_sum work before before' r 0 work.vl row (omega arith) (λ i p from in_row read. same p (reads_for_is_read work r i p read))))
+      (λ no_sum. same_new_element work before before' r j row (rw (columns_without_sum work no_sum) at column) (λ p read. same p (reads_for_is_read work r j p read)) no_sum)
 
   module _ (after after' : List Cell) (whole : IsWhole work before after) (whole' : IsWhole work before' after') where
     -- the written elements agree
@@ -194,13 +243,13 @@ module _ (work : VecWork) (before before' : List Cell) (same : length before' �
 
 -- what an instruction writes depends only on the cells of its read footprint
 pub whole_reads : (work : VecWork) (before after before' after' : List Cell) → IsWhole work before after → IsWhole work before' after' → length before' ≡ length before → ((p : ℕ) → ReadsCell (Vector work) p → cell_at before' p ≡ cell_at before p) → (p : ℕ) → WritesCell (Vector work) p → cell_at after' p ≡ cell_at after p
-whole_reads work before after before' after' whole whole' same agree = same_written work before before' same agree after after' whole whole'
+whole_reads work before after before' after' whole whole' long agree = same_written work before before' (λ p read. same_slot (0, false) before before' p long (agree p read)) after after' whole whole'
 
 -- the cells before determine the cells after
 pub whole_determined : (work : VecWork) (before after after' : List Cell) → IsWhole work before after → IsWhole work before after' → after' ≡ after
 whole_determined work before after after' whole whole' =
     ext_get_or (0, false) after' after (whole'.same_length ∙ sym whole.same_length)
     (λ p below. elim (covered_or_not (destination work) p) [
-      | inl covered ↦ same_written work before before refl (λ q read. refl) after after' whole whole' p covered
+      | inl covered ↦ same_written work before before (λ q read. refl) after after' whole whole' p covered
       | inr outside ↦ whole'.kept p outside ∙ sym (whole.kept p outside)
     ])
