@@ -1,10 +1,9 @@
 -- From what is meant and how much of it is put to how the call ends.
-use Rattle.std.proofs.Common.{◌≡◌, ◌≢◌, ◌⊎◌, inl, inr, ℕ, ◌<◌, List, [], ◌∷◌, ◌++◌, ◌+◌, ◌-◌, length, get_or, Option, Result, Ok, Err, Vec, refl, sym, ap, subst, ◌∙◌, arith, length-append}
-use Rattle.std.specs.Prelude.{IsErrOf, String, slice_index_or, codes}
+use Rattle.std.proofs.Common.{◌≡◌, ◌≢◌, ◌⊎◌, inl, inr, ℕ, ◌<◌, List, [], length, get_or, Option, Result, Ok, Err, Vec, refl, sym, ap, subst, ◌∙◌, arith}
+use Rattle.std.specs.Prelude.{IsErrOf, String, slice_index_or}
 use Rattle.std.specs.String.{string_bytes}
 use Rattle.std.specs.declared.alloc.Global.{Global}
-use Rattle.std.proofs.lemmas.List.{get_or-map, length-map, take_all}
-use Rattle.std.proofs.Math.Seq.{get_or-append_seam}
+use Rattle.std.proofs.lemmas.List.{get_or-map, length-map}
 use Rattle.ven_io.specs.Faults.{Rose, CountsFaults}
 use Rattle.ven_io.specs.Files.{Held, Shows}
 use Rattle.ven_io.specs.Sink.{Takes}
@@ -16,7 +15,6 @@ use Rattle.venice_run.specs.Words.{texts_of, Spells}
 use Rattle.venice_run.specs.Refusal.{status_of, line_of}
 use Rattle.venice_run.specs.Request.{Asks}
 use Rattle.venice_run.specs.Reply.{NotUsed, Refused, Done}
-use Rattle.venice_run.specs.Lines.{IsLineStart}
 use Rattle.venice_run.specs.Outcome.{RunsFor}
 use Rattle.venice_run.specs.Ending.{IsRefusedBy, Answers, Means, Replies, LacksFile, LacksMemory, Puts, PutsWhole, PutsPart, PutsLines, PutsRefusal, TakesReply, TakesPartOfAny, TakesLinesOfAny, Ends}
 
@@ -98,9 +96,9 @@ module _ (words : List (List ℕ)) (held : Option Held) (loads now : ℕ) (taken
 
   -- at a status: a whole reply, or one of the faults
   whole : (result status : ℕ) (text : List ℕ) → result ≡ status → Means words held loads now status text → Takes taken taken_now text
-      → TakesReply words held held taken taken_now result ⊎ ((Rose loads now × (result ≡ 8) × Takes taken taken_now (line_of File)) ⊎ (result ≡ 10))
-  whole result status text is (Replies kept reply) takes =
-      inl (subst (λ (n : ℕ). TakesReply words held held taken taken_now n) (sym is) (record { text = text; reply = reply; whole = takes }))
+      → ((now ≡ loads) × TakesReply words held held taken taken_now result) ⊎ ((Rose loads now × (result ≡ 8) × Takes taken taken_now (line_of File)) ⊎ (result ≡ 10))
+  whole result status text is (Replies still reply) takes =
+      inl (still, subst (λ (n : ℕ). TakesReply words held held taken taken_now n) (sym is) (record { text = text; reply = reply; whole = takes }))
   whole result status text is (LacksFile rose s t) takes = inr (inl (rose, is ∙ s, subst (Takes taken taken_now) t takes))
   whole result status text is (LacksMemory s t) takes = inr (inr (is ∙ s))
 
@@ -109,33 +107,32 @@ module _ (words : List (List ℕ)) (held : Option Held) (loads now : ℕ) (taken
   replies result ends no_load no_put other = by (ends.puts)
     where
       by : Puts taken taken_now faults faults_now ends.status ends.text result → TakesReply words held held taken taken_now result
-      by (PutsWhole is takes kept) = elim (whole result ends.status ends.text is ends.means takes) [ inl reply ↦ reply | inr fault ↦ elim fault [ inl file ↦ absurd (no_load file.0) | inr memory ↦ absurd (other memory) ] ]
+      by (PutsWhole is takes kept) = elim (whole result ends.status ends.text is ends.means takes) [ inl reply ↦ reply.1 | inr fault ↦ elim fault [ inl file ↦ absurd (no_load file.0) | inr memory ↦ absurd (other memory) ] ]
       by (PutsPart is part rose) = absurd (no_put rose)
       by (PutsLines is lines kept) = absurd (other is)
 
   pub quiet : (result : ℕ) → Ends words held loads now taken taken_now faults faults_now result → result ≢ 8 → result ≢ 9 → result ≢ 10
       → (now ≡ loads) × (faults_now ≡ faults) × TakesReply words held held taken taken_now result
-  quiet result ends no_file no_put no_memory = by ends.puts ends.means
+  quiet result ends no_file no_put no_memory = by ends.puts
     where
-      by : Puts taken taken_now faults faults_now ends.status ends.text result → Means words held loads now ends.status ends.text
-          → (now ≡ loads) × (faults_now ≡ faults) × TakesReply words held held taken taken_now result
-      by (PutsWhole is takes kept) (Replies still reply) =
-          (still, kept, subst (λ (n : ℕ). TakesReply words held held taken taken_now n) (sym is) (record { text = ends.text; reply = reply; whole = takes }))
-      by (PutsWhole is takes kept) (LacksFile rose s t) = absurd (no_file (is ∙ s))
-      by (PutsWhole is takes kept) (LacksMemory s t) = absurd (no_memory (is ∙ s))
-      by (PutsPart is part rose) means = absurd (no_put is)
-      by (PutsLines is lines kept) means = absurd (no_memory is)
+      by : Puts taken taken_now faults faults_now ends.status ends.text result → (now ≡ loads) × (faults_now ≡ faults) × TakesReply words held held taken taken_now result
+      by (PutsWhole is takes kept) = elim (whole result ends.status ends.text is ends.means takes) [
+        | inl reply ↦ (reply.0, kept, reply.1)
+        | inr fault ↦ elim fault [ inl file ↦ absurd (no_file file.1) | inr memory ↦ absurd (no_memory memory) ]
+      ]
+      by (PutsPart is part rose) = absurd (no_put is)
+      by (PutsLines is lines kept) = absurd (no_memory is)
 
   pub file : (result : ℕ) → Ends words held loads now taken taken_now faults faults_now result → result ≡ 8
-      → (faults_now ≡ faults) × (TakesReply words held held taken taken_now 8 ⊎ (Rose loads now × Takes taken taken_now (line_of File)))
+      → (faults_now ≡ faults) × (((now ≡ loads) × TakesReply words held held taken taken_now 8) ⊎ (Rose loads now × Takes taken taken_now (line_of File)))
   file result ends eight = by ends.puts
     where
       by : Puts taken taken_now faults faults_now ends.status ends.text result
-          → (faults_now ≡ faults) × (TakesReply words held held taken taken_now 8 ⊎ (Rose loads now × Takes taken taken_now (line_of File)))
+          → (faults_now ≡ faults) × (((now ≡ loads) × TakesReply words held held taken taken_now 8) ⊎ (Rose loads now × Takes taken taken_now (line_of File)))
       by (PutsWhole is takes kept) = (
         kept,
         elim (whole result ends.status ends.text is ends.means takes) [
-          | inl reply ↦ inl (subst (λ (n : ℕ). TakesReply words held held taken taken_now n) eight reply)
+          | inl reply ↦ inl (reply.0, subst (λ (n : ℕ). TakesReply words held held taken taken_now n) eight reply.1)
           | inr fault ↦ elim fault [ inl f ↦ inr (f.0, f.2) | inr memory ↦ absurd (omega arith) ]
         ],
       )

@@ -34,9 +34,10 @@ pub fn venice<F: Files, S: Sink>(alloc: Global, words: &[String], files: &mut F,
         → (F.load_faults files.new ≡ F.load_faults files.old) × (S.faults out.new ≡ S.faults out.old)
         × TakesReply (texts_of words.now) (F.held files.old) (F.held files.new) (S.taken out.old) (S.taken out.new) result }
 
-    // A file isn't there, or a load failed.
+    // A file isn't there, and no load failed; or one did.
     ensures file { result ≡ 8 → (S.faults out.new ≡ S.faults out.old)
-        × (TakesReply (texts_of words.now) (F.held files.old) (F.held files.new) (S.taken out.old) (S.taken out.new) 8
+        × (((F.load_faults files.new ≡ F.load_faults files.old)
+        × TakesReply (texts_of words.now) (F.held files.old) (F.held files.new) (S.taken out.old) (S.taken out.new) 8)
         ⊎ (Rose (F.load_faults files.old) (F.load_faults files.new) × Takes (S.taken out.old) (S.taken out.new) (line_of Refusal.File))) }
 
     // A put failed.
