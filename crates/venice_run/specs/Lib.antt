@@ -12,3 +12,4 @@ pub mod Additions
 pub mod Lines
 pub mod Outcome
 pub mod Ending
+pub mod Putting

@@ -5,7 +5,9 @@ ghost use Rattle.ven_io.specs.Faults.{Rose, CountsFaults};
 ghost use Rattle.ven_io.specs.Sink.{Takes};
 ghost use Rattle.venice_run.specs.Words.{texts_of};
 ghost use Rattle.venice_run.specs.Refusal.{line_of};
-ghost use Rattle.venice_run.specs.Ending.{Answers, Puts, PutsRefusal, TakesReply, TakesPartOfAny, TakesLinesOfAny, Ends};
+ghost use Rattle.venice_run.specs.Ending.{TakesReply, TakesPartOfAny, TakesLinesOfAny};
+ghost use Rattle.venice_run.specs.Outcome.{Answers};
+ghost use Rattle.venice_run.specs.Putting.{Puts, PutsRefusal, Ends};
 
 use crate::command::read_words;
 use crate::lines::put_lines;
