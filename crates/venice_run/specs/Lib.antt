@@ -9,7 +9,6 @@ pub mod Request
 pub mod Reply
 pub mod Items
 pub mod Additions
-pub mod Lines
 pub mod Outcome
 pub mod Ending
 pub mod Putting

@@ -6,8 +6,7 @@ use Rattle.ven_io.specs.Sink.{Takes, TakesPart}
 use Rattle.venice_run.specs.declared.refusal.Refusal.{Refusal}
 use Rattle.venice_run.specs.declared.refusal.Refusal.TheVariants.{Memory}
 use Rattle.venice_run.specs.Refusal.{status_of, line_of}
-use Rattle.venice_run.specs.Lines.{TakesLines}
-use Rattle.venice_run.specs.Ending.{Means}
+use Rattle.venice_run.specs.Ending.{TakesLines, Means}
 
 -- the status where a put failed
 abbrev pub put_failed : ℕ
