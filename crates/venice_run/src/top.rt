@@ -26,6 +26,7 @@ const MEMORY_LINE: &[u8] = b"error: memory\n";
 ///
 /// The reply goes to the sink: the command's output, or the one line of its first refusal. Status 8 with
 /// `error: file` comes only where a load failed, status 9 only where a put failed, and status 10 where memory ran out.
+/// docs/FORMATS.md has the words, the output and the order of the refusals, docs/LANGUAGE.md the program's form.
 pub fn venice<F: Files, S: Sink>(alloc: Global, words: &[String], files: &mut F, out: &mut S) -> u8
     // Where nothing outside failed, the whole reply was put.
     ensures reply { ¬ Rose (F.load_faults files.old) (F.load_faults files.new) → ¬ Rose (S.faults out.old) (S.faults out.new) → result ≢ 10
