@@ -2,10 +2,15 @@
 //! the status that comes back.
 #![tactic(auto)]
 
+ghost use Rattle.std.specs.Prelude.{◌≡◌, ◌≢◌, IfOk, OnErr};
+ghost use Rattle.ven_io.specs.Faults.{Rose};
+ghost use Rattle.venice_run.specs.Words.{texts_of};
+ghost use Rattle.venice_run.specs.Ending.{TakesReply};
+
 use std::alloc::Global;
 use std::process::ExitCode;
 use std::{env, io};
-use ven_io::{HostFiles, HostSink};
+use ven_io::{Files, HostFiles, HostSink, Sink};
 use venice_run::venice;
 
 /// The status where the system can't give the words, which the top call never answers.
@@ -13,12 +18,10 @@ const NO_WORDS: u8 = 15;
 
 fn main(rt: HostRuntime) -> ExitCode {
     let alloc = rt.alloc();
-    let Ok(words) = words_of(&rt, alloc) else {
-        return ExitCode::from(NO_WORDS);
-    };
+    let words = words_of(&rt, alloc);
     let mut files = HostFiles::new(&rt);
     let mut out = HostSink::new(&rt);
-    ExitCode::from(venice(alloc, &words, &mut files, &mut out))
+    ExitCode::from(status_of(alloc, words, &mut files, &mut out))
 }
 
 // The words after the program's name.
@@ -28,4 +31,29 @@ fn words_of(rt: &HostRuntime, alloc: Global) -> io::Result<Vec<String>> {
         words.push(word)?;
     }
     Ok(words)
+}
+
+// The status that the words lead to: the top call's, over what it is handed.
+fn status_of<F: Files, S: Sink>(
+    alloc: Global,
+    words: io::Result<Vec<String>>,
+    files: &mut F,
+    out: &mut S,
+) -> u8
+    // Without words nothing is done.
+    ensures nothing { OnErr words ((result ≡ 15) × (files.new ≡ files.old) × (out.new ≡ out.old)) }
+
+    // Where nothing outside failed, the whole reply to the words was put.
+    ensures reply { IfOk words (λ given. ¬ Rose (F.load_faults files.old) (F.load_faults files.new) → ¬ Rose (S.faults out.old) (S.faults out.new) → result ≢ 10
+        → TakesReply (texts_of given.items) (F.held files.old) (F.held files.new) (S.taken out.old) (S.taken out.new) result) }
+
+    // Every status but 8, 9 and 10 is that of a reply, and comes only where nothing outside failed.
+    ensures quiet { IfOk words (λ given. result ≢ 8 → result ≢ 9 → result ≢ 10
+        → (F.load_faults files.new ≡ F.load_faults files.old) × (S.faults out.new ≡ S.faults out.old)
+        × TakesReply (texts_of given.items) (F.held files.old) (F.held files.new) (S.taken out.old) (S.taken out.new) result) }
+{
+    match words {
+        Ok(words) => venice(alloc, &words, files, out),
+        Err(_) => NO_WORDS,
+    }
 }

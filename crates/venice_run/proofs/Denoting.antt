@@ -6,14 +6,14 @@ use Rattle.std.proofs.lemmas.List.Elements.{recursion_from_All}
 use Rattle.ven_io.specs.Lexemes.{Lexeme, Number, IsLexed}
 use Rattle.ven_io.proofs.Lexed.{one_lexing_holds}
 use Rattle.venice_run.specs.Items.{HasSmallNumbers}
-use Rattle.venice_run.specs.Addition.{Addition, Operands, IsAddition, AreValues, DenotesAddition, DenotesOperands, program_lexemes, operand_lexemes, array_lexemes}
+use Rattle.venice_run.specs.Addition.{Addition, Operands, IsAddition, AreValues, DenotesAddition, DenotesOperands, program_lexemes, operand_lexemes, array_lexemes, text_limit}
 
 -- no program of the form is among lexemes of which none with small numbers is the text's
 small_program : (a : Addition) → IsAddition a → HasSmallNumbers (program_lexemes a)
 small_program a is = (omega arith, (omega (arith, is.few_columns), (omega arith, (omega (arith, is.few_columns), tt))))
 
-pub no_program_lexed : (text : List ℕ) → ((lexemes : List Lexeme) → HasSmallNumbers lexemes → ¬ IsLexed text lexemes) → (a : Addition) → ¬ DenotesAddition text a
-no_program_lexed text none a denotes = none (program_lexemes a) (small_program a denotes.is_addition) denotes.lexemes
+pub no_program_lexed : (text : List ℕ) → ((lexemes : List Lexeme) → length text ≤ text_limit → HasSmallNumbers lexemes → ¬ IsLexed text lexemes) → (a : Addition) → ¬ DenotesAddition text a
+no_program_lexed text none a denotes = none (program_lexemes a) denotes.short (small_program a denotes.is_addition) denotes.lexemes
 
 pub no_program : (text : List ℕ) (lexemes : List Lexeme) → IsLexed text lexemes → ((a : Addition) → IsAddition a → lexemes ≡ program_lexemes a → ⊥) → (a : Addition) → ¬ DenotesAddition text a
 no_program text lexemes lexed none a denotes = none a denotes.is_addition (one_lexing_holds text lexemes (program_lexemes a) lexed denotes.lexemes)
@@ -34,8 +34,8 @@ small_operands a v is first second =
     small_array a.first a.columns v.first (array_lexemes a.second a.columns v.second) is.few_columns first
     (subst HasSmallNumbers (append-nil (array_lexemes a.second a.columns v.second)) (small_array a.second a.columns v.second [] is.few_columns second tt))
 
-pub no_operands_lexed : (text : List ℕ) (a : Addition) → IsAddition a → ((lexemes : List Lexeme) → HasSmallNumbers lexemes → ¬ IsLexed text lexemes) → (v : Operands) → ¬ DenotesOperands text a v
-no_operands_lexed text a is none v denotes = none (operand_lexemes a v) (small_operands a v is denotes.first denotes.second) denotes.lexemes
+pub no_operands_lexed : (text : List ℕ) (a : Addition) → IsAddition a → ((lexemes : List Lexeme) → length text ≤ text_limit → HasSmallNumbers lexemes → ¬ IsLexed text lexemes) → (v : Operands) → ¬ DenotesOperands text a v
+no_operands_lexed text a is none v denotes = none (operand_lexemes a v) denotes.short (small_operands a v is denotes.first denotes.second) denotes.lexemes
 
 pub no_operands : (text : List ℕ) (a : Addition) (lexemes : List Lexeme) → IsLexed text lexemes
     → ((v : Operands) → AreValues a.columns v.first → AreValues a.columns v.second → lexemes ≡ operand_lexemes a v → ⊥) → (v : Operands) → ¬ DenotesOperands text a v

@@ -6,7 +6,7 @@ use Rattle.std.proofs.lemmas.Bool.{cases_lt}
 use Rattle.ven_io.specs.Sink.{Takes, TakesPart}
 use Rattle.ven_io.proofs.SinkLemmas.{Takes-then, TakesPart-more, Takes-then-part}
 use Rattle.ven_io.specs.Token.{line_end}
-use Rattle.venice_run.specs.Lines.{IsLineStart, TakesLines}
+use Rattle.venice_run.specs.Ending.{IsLineStart, TakesLines}
 
 -- the text up to a place, and from there to the next
 take_more : (text : List ℕ) (start end : ℕ) → start ≤ end → take end text ≡ take start text ++ take (end - start) (drop start text)

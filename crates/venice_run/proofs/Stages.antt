@@ -1,5 +1,5 @@
 -- From stage to stage: which refusal is the first.
-use Rattle.std.proofs.Common.{◌≡◌, inl, inr, ℕ, ◌<◌, ◌≤◌, List, [], Option, Some, None, Ok, Err, Vec, refl, sym, ap, subst, ◌∙◌, arith}
+use Rattle.std.proofs.Common.{◌≡◌, ◌⊎◌, inl, inr, ℕ, ◌<◌, ◌≤◌, List, [], Option, Some, None, Ok, Err, Vec, refl, sym, ap, subst, ◌∙◌, arith}
 use Rattle.std.specs.Prelude.{slice_get}
 use Rattle.std.specs.FinMap as map
 use Rattle.std.specs.declared.alloc.Global.{Global}
@@ -16,7 +16,7 @@ use Rattle.ven_base.specs.declared.elem.Elem.TheVariants.{U8}
 use Rattle.venice_run.specs.Addition.{Addition, Operands, DenotesAddition, DenotesOperands, program_lexemes, need_of}
 use Rattle.venice_run.specs.Additions.{denoted, denoted_operands}
 use Rattle.venice_run.specs.Output.{one_row_text, sums_of}
-use Rattle.venice_run.specs.Request.{Request, spad_of, HasProgram, HasInputs, Passes, LoadProgram, ReadProgram, CheckScratchpad, LoadInputs, ReadInputs}
+use Rattle.venice_run.specs.Request.{Request, spad_of, HasProgram, HasInputs, Passes, Loaded, Program, Inputs, Load, ReadProgram, CheckScratchpad, ReadInputs}
 use Rattle.venice_run.specs.Outcome.{ReadsProgram, ReadsInputs, RunsFor}
 
 -- files show something under each name
@@ -70,8 +70,8 @@ module _ (q : Request) where
       same_addition a b (one_lexing_holds r.text (program_lexemes a) (program_lexemes b) (subst (λ (t : List ℕ). IsLexed t (program_lexemes a)) texts p.denotes.lexemes) r.denotes.lexemes)
 
   -- each stage passes where its cause doesn't stand
-  pub program_loaded : (text : List ℕ) → q.program ≡ Some text → Passes q LoadProgram
-  program_loaded text is refusal applies = some_none text (sym is ∙ applies.1)
+  pub is_loaded : (loaded : Loaded) (text : List ℕ) → q.shown loaded ≡ Some text → Passes q (Load loaded)
+  is_loaded loaded text is refusal applies = some_none text (sym is ∙ applies.1)
 
   pub program_read : (a : Addition) → HasProgram q a → Passes q ReadProgram
   program_read a has refusal applies = applies.1 a has
@@ -81,50 +81,49 @@ module _ (q : Request) where
       let same : applies.0.columns ≡ a.columns = ap (λ (x : Addition). x.columns) (one_addition applies.0 a applies.1 has) in
       let less = applies.2 in absurd (omega arith)
 
-  pub inputs_loaded : (text : List ℕ) → q.inputs ≡ Some text → Passes q LoadInputs
-  inputs_loaded text is refusal applies = some_none text (sym is ∙ applies.1)
-
   pub inputs_read : (a : Addition) (v : Operands) → HasProgram q a → HasInputs q a v → Passes q ReadInputs
   inputs_read a v has given refusal applies =
       let found = applies.1 in
       found.2 v (subst (λ (x : Addition). HasInputs q x v) (one_addition a found.0 has found.1) given)
 
   -- another text that is shown is the same
-  pub not_program : (text : List ℕ) → q.program ≡ Some text → ((a : Addition) → ¬ DenotesAddition text a) → (a : Addition) → ¬ HasProgram q a
+  pub not_program : (text : List ℕ) → q.shown Program ≡ Some text → ((a : Addition) → ¬ DenotesAddition text a) → (a : Addition) → ¬ HasProgram q a
   not_program text is none a has = none a (subst (λ (t : List ℕ). DenotesAddition t a) (some_is has.text text (sym has.shown ∙ is)) has.denotes)
 
-  pub not_inputs : (text : List ℕ) (a : Addition) → q.inputs ≡ Some text → ((v : Operands) → ¬ DenotesOperands text a v) → (v : Operands) → ¬ HasInputs q a v
+  pub not_inputs : (text : List ℕ) (a : Addition) → q.shown Inputs ≡ Some text → ((v : Operands) → ¬ DenotesOperands text a v) → (v : Operands) → ¬ HasInputs q a v
   not_inputs text a is none v has = none v (subst (λ (t : List ℕ). DenotesOperands t a v) (some_is has.text text (sym has.shown ∙ is)) has.denotes)
 
 -- what `run` comes to, exit by exit
 module _ (held : Option Held) (program inputs : List ℕ) where
-  abbrev asking : Command → Option (List ℕ) → Option (List ℕ) → Request
-  asking command p i = record { command = command; program = p; inputs = i }
+  abbrev showing : Option (List ℕ) → Option (List ℕ) → Loaded → Option (List ℕ)
+  showing p i Program = p
+  showing p i Inputs = i
 
-  pub no_memory : (command : Command) → RunsFor held command program inputs (Err Memory)
-  no_memory command = record {
+  abbrev asking : Command → Option (List ℕ) → Option (List ℕ) → Request
+  asking command p i = record { command = command; shown = showing p i }
+
+  -- a load that fails and want of memory come to any request
+  at_any : (command : Command) (r : Refusal) → (r ≡ File) ⊎ (r ≡ Memory) → RunsFor held command program inputs (Err r)
+  at_any command r is = record {
     request = asking command (shown held program) (shown held inputs);
     asked = refl;
     program_shown = Shows-shown held program;
     inputs_shown = Shows-shown held inputs;
-    comes = tt;
+    comes = inr is;
   }
+
+  pub no_memory : (command : Command) → RunsFor held command program inputs (Err Memory)
+  no_memory command = at_any command Memory (inr refl)
 
   pub no_program : (command : Command) (r : Refusal) → ReadsProgram held program (Err r) → RunsFor held command program inputs (Err r)
   no_program command Memory reads = no_memory command
-  no_program command File reads = record {
-    request = asking command (shown held program) (shown held inputs);
-    asked = refl;
-    program_shown = Shows-shown held program;
-    inputs_shown = Shows-shown held inputs;
-    comes = tt;
-  }
+  no_program command File reads = at_any command File (inl refl)
   no_program (Run lanes spad) FileMissing reads = record {
     request = asking (Run lanes spad) None (shown held inputs);
     asked = refl;
     program_shown = reads;
     inputs_shown = Shows-shown held inputs;
-    comes = inl (refl, refl);
+    comes = inl (inl (refl, refl));
   }
   no_program (Run lanes spad) ProgramForm reads =
       let q = asking (Run lanes spad) (Some reads.0) (shown held inputs) in
@@ -133,7 +132,7 @@ module _ (held : Option Held) (program inputs : List ℕ) where
         asked = refl;
         program_shown = reads.1;
         inputs_shown = Shows-shown held inputs;
-        comes = inr (program_loaded q reads.0 refl, inl (refl, not_program q reads.0 refl reads.2));
+        comes = inl (inr (is_loaded q Program reads.0 refl, inl (refl, not_program q reads.0 refl reads.2)));
       }
   no_program command Usage reads = absurd reads
   no_program command InputsForm reads = absurd reads
@@ -152,18 +151,12 @@ module _ (held : Option Held) (program inputs : List ℕ) where
           asked = refl;
           program_shown = reads.1;
           inputs_shown = Shows-shown held inputs;
-          comes = inr (program_loaded q reads.0 refl, inr (program_read q (denoted a) has, inl (denoted a, has, less, refl)));
+          comes = inl (inr (is_loaded q Program reads.0 refl, inr (program_read q (denoted a) has, inl (denoted a, has, less, refl))));
         }
 
     pub no_inputs : need_of (denoted a) ≤ spad → (r : Refusal) → ReadsInputs held inputs (denoted a) (Err r) → RunsFor held (Run lanes spad) program inputs (Err r)
     no_inputs enough Memory given = no_memory (Run lanes spad)
-    no_inputs enough File given = record {
-      request = asking (Run lanes spad) (shown held program) (shown held inputs);
-      asked = refl;
-      program_shown = Shows-shown held program;
-      inputs_shown = Shows-shown held inputs;
-      comes = tt;
-    }
+    no_inputs enough File given = at_any (Run lanes spad) File (inl refl)
     no_inputs enough FileMissing given =
         let q = asking (Run lanes spad) (Some reads.0) None in
         let has = has_program None in
@@ -172,7 +165,7 @@ module _ (held : Option Held) (program inputs : List ℕ) where
           asked = refl;
           program_shown = reads.1;
           inputs_shown = given;
-          comes = inr (program_loaded q reads.0 refl, inr (program_read q (denoted a) has, inr (scratchpad_holds q (denoted a) has enough, inl (refl, refl))));
+          comes = inl (inr (is_loaded q Program reads.0 refl, inr (program_read q (denoted a) has, inr (scratchpad_holds q (denoted a) has enough, inl (refl, refl)))));
         }
     no_inputs enough InputsForm given =
         let q = asking (Run lanes spad) (Some reads.0) (Some given.0) in
@@ -182,16 +175,18 @@ module _ (held : Option Held) (program inputs : List ℕ) where
           asked = refl;
           program_shown = reads.1;
           inputs_shown = given.1;
-          comes = inr (
-            program_loaded q reads.0 refl,
-            inr (
-              program_read q (denoted a) has,
+          comes = inl (
               inr (
-                scratchpad_holds q (denoted a) has enough,
-                inr (inputs_loaded q given.0 refl, inl (refl, (denoted a, has, not_inputs q given.0 (denoted a) refl given.2))),
-              ),
-            ),
-          );
+                is_loaded q Program reads.0 refl,
+                inr (
+                  program_read q (denoted a) has,
+                  inr (
+                    scratchpad_holds q (denoted a) has enough,
+                    inr (is_loaded q Inputs given.0 refl, inl (refl, (denoted a, has, not_inputs q given.0 (denoted a) refl given.2))),
+                  ),
+                ),
+              )
+              );
         }
     no_inputs enough Usage given = absurd given
     no_inputs enough ProgramForm given = absurd given
@@ -210,12 +205,12 @@ module _ (held : Option Held) (program inputs : List ℕ) where
           inputs_shown = given.1;
           comes = (
             (
-              program_loaded q reads.0 refl,
+              is_loaded q Program reads.0 refl,
               (
                 program_read q (denoted a) has,
                 (
                   scratchpad_holds q (denoted a) has enough,
-                  (inputs_loaded q given.0 refl, (inputs_read q (denoted a) (denoted_operands v) has has_inputs, tt)),
+                  (is_loaded q Inputs given.0 refl, (inputs_read q (denoted a) (denoted_operands v) has has_inputs, tt)),
                 ),
               ),
             ),

@@ -2,13 +2,13 @@ pub mod Words
 pub mod Refusal
 pub mod Addition
 pub mod Output
+pub mod Request
+pub mod Reply
+pub mod Ending
 pub mod Tile
 pub mod TileLaw
 pub mod Executor
-pub mod Request
-pub mod Reply
 pub mod Items
 pub mod Additions
-pub mod Lines
 pub mod Outcome
-pub mod Ending
+pub mod Putting

@@ -1,5 +1,5 @@
--- What the stages of `run` come to, one by one and together.
-use Rattle.std.specs.Prelude.{◌≡◌, ℕ, List, Option, Some, None, Result, Ok, Err, Vec}
+-- What the stages of `run` come to, one by one and together, and what the words come to.
+use Rattle.std.specs.Prelude.{◌≡◌, ◌⊎◌, ℕ, List, Option, Some, None, Result, Ok, Err, Vec}
 use Rattle.std.specs.declared.alloc.Global.{Global}
 use Rattle.ven_io.specs.Files.{Held, Shows, Loads}
 use Rattle.venice_run.specs.declared.addition.Addition as code
@@ -9,7 +9,8 @@ use Rattle.venice_run.specs.declared.refusal.Refusal.TheVariants.{Usage, Program
 use Rattle.venice_run.specs.declared.command.Command.{Command}
 use Rattle.venice_run.specs.Addition.{Addition, Operands, DenotesAddition, DenotesOperands, text_limit}
 use Rattle.venice_run.specs.Additions.{denoted, denoted_operands}
-use Rattle.venice_run.specs.Request.{Request, stages_of}
+use Rattle.venice_run.specs.Words.{Spells}
+use Rattle.venice_run.specs.Request.{Program, Inputs, Request, Asks, stages_of}
 use Rattle.venice_run.specs.Reply.{IsFirstRefusal, NoneApplies, PrintsSums}
 
 -- a load within the limit of texts: its bytes, or why there are none
@@ -67,21 +68,20 @@ ReadsInputs held name addition (Err Usage) = ⊥
 ReadsInputs held name addition (Err ProgramForm) = ⊥
 ReadsInputs held name addition (Err (Scratchpad need have)) = ⊥
 
--- the request comes to this text, or to this refusal; a file that can't be read and want of memory may come to any
+-- the request comes to this text, or to its first refusal; a load that fails and want of memory may stand in place of either
 abbrev pub ComesTo : Request → Result (Vec ℕ Global) Refusal → Type 0
 ComesTo request (Ok text) = NoneApplies request (stages_of request.command) × PrintsSums request text.items
-ComesTo request (Err File) = Unit {0}
-ComesTo request (Err Memory) = Unit {0}
-ComesTo request (Err Usage) = ⊥
-ComesTo request (Err ProgramForm) = IsFirstRefusal request (stages_of request.command) ProgramForm
-ComesTo request (Err InputsForm) = IsFirstRefusal request (stages_of request.command) InputsForm
-ComesTo request (Err FileMissing) = IsFirstRefusal request (stages_of request.command) FileMissing
-ComesTo request (Err (Scratchpad need have)) = IsFirstRefusal request (stages_of request.command) (Scratchpad need have)
+ComesTo request (Err refusal) = IsFirstRefusal request (stages_of request.command) refusal ⊎ ((refusal ≡ File) ⊎ (refusal ≡ Memory))
 
--- for some request of this command, of which the files show what it says under the two names, `run` comes to the result
+-- some request of this command, of which the files show what it says under the two names, comes to the result
 pub record RunsFor (held : Option Held) (command : Command) (program inputs : List ℕ) (result : Result (Vec ℕ Global) Refusal) : Type 0 where
   pub request : Request
   pub asked : request.command ≡ command
-  pub program_shown : Shows held program request.program
-  pub inputs_shown : Shows held inputs request.inputs
+  pub program_shown : Shows held program (request.shown Program)
+  pub inputs_shown : Shows held inputs (request.shown Inputs)
   pub comes : ComesTo request result
+
+-- what the words come to: the refusal `usage` where they spell no command, else what their request comes to
+pub data Answers (words : List (List ℕ)) (held : Option Held) (result : Result (Vec ℕ Global) Refusal) : Type 0 where
+  AsksNothing : ((command : Command) → ¬ Spells words command) → result ≡ Err Usage → Answers words held result
+  AsksFor : (request : Request) → Asks words held request → ComesTo request result → Answers words held result

@@ -1,9 +1,11 @@
+//! The words of the command line.
+
 ghost use Rattle.std.specs.Prelude.{◌≡◌, ◌≤◌, ◌↔◌, ℕ, decimal, IsTrue, MatchOption};
 ghost use Rattle.venice_run.specs.Words.{texts_of, Spells};
 
 use itoa::Buffer;
 
-/// What the words of the command line ask for.
+/// What the words of the command line ask for ("The command line" in docs/FORMATS.md).
 #[derive(Clone, Copy, Debug, PartialEq, Eq)]
 pub enum Command {
     /// `run PROGRAM INPUTS IMAGE LANES SPAD`: 1 to 4 lanes, a scratchpad of 1 to 1,048,576 bytes.

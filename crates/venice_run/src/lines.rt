@@ -4,7 +4,7 @@ ghost use Rattle.std.specs.Prelude.{◌≡◌, ◌-◌, ◌<◌, ◌≤◌, leng
 ghost use Rattle.ven_io.specs.Faults.{CountsFaults};
 ghost use Rattle.ven_io.specs.Sink.{Takes, TakesPart};
 ghost use Rattle.ven_io.specs.Token.{line_end};
-ghost use Rattle.venice_run.specs.Lines.{TakesLines};
+ghost use Rattle.venice_run.specs.Ending.{TakesLines};
 
 use memchr::memchr;
 use ven_io::{OutFault, Sink};

@@ -1,3 +1,5 @@
+//! The refusals, each with its status and its line.
+
 ghost use Rattle.std.specs.Prelude.{◌≡◌, ◌++◌, decimal, IfOk, OnOk};
 ghost use Rattle.venice_run.specs.Refusal.{status_of, cause_of, line_of};
 ghost use Rattle.venice_run.specs.declared.refusal.Refusal.TheVariants.{Memory};
@@ -5,7 +7,8 @@ ghost use Rattle.venice_run.specs.declared.refusal.Refusal.TheVariants.{Memory};
 use itoa::Buffer;
 use std::alloc::{AllocError, Global};
 
-/// Why the program did nothing: one variant a cause. Each prints one line, `error: ` and its words.
+/// Why the program did nothing: one variant a cause. Each prints one line, `error: ` and its words
+/// ("Statuses and lines" in docs/FORMATS.md).
 #[derive(Clone, Copy, Debug, PartialEq, Eq)]
 pub enum Refusal {
     /// The words of the command line are of no command's form.
@@ -14,7 +17,7 @@ pub enum Refusal {
     ProgramForm,
     /// The inputs' text isn't of the form, or is too long.
     InputsForm,
-    /// The scratchpad has fewer bytes than the program needs.
+    /// The scratchpad has fewer bytes than the program needs; both in bytes.
     Scratchpad { need: u64, have: u32 },
     /// A file couldn't be read.
     File,
@@ -47,7 +50,7 @@ impl Refusal {
         }
     }
 
-    /// The line that is printed, with its line end.
+    /// The line that is printed, with its line end. `AllocError` where there is no memory for the line.
     pub fn line(self, alloc: Global) -> Result<Vec<u8>, AllocError>
         ensures { IfOk result (λ line. line.items ≡ line_of self) }
     {

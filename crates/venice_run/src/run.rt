@@ -1,16 +1,18 @@
 //! The stages of `run`, each with its refusals.
 
-ghost use Rattle.std.specs.Prelude.{◌≡◌, ◌<◌, ◌≤◌, length, IfOk, IsErrOf, MatchResult};
+ghost use Rattle.std.specs.Prelude.{◌≡◌, ◌<◌, ◌≤◌, List, length, IfOk, IsErrOf, MatchOption, MatchResult};
 ghost use Rattle.ven_io.specs.Faults.{CountsFaults};
+ghost use Rattle.ven_io.specs.Lexemes.{Lexeme, IsLexed};
+ghost use Rattle.venice_run.specs.Items.{lexemes_of, HasSmallNumbers};
 ghost use Rattle.venice_run.specs.Output.{one_row_text as text_lem, sums_of};
 ghost use Rattle.venice_run.specs.Additions.{denoted};
-ghost use Rattle.venice_run.specs.Addition.{IsAddition, need_of};
+ghost use Rattle.venice_run.specs.Addition.{IsAddition, need_of, text_limit};
 ghost use Rattle.venice_run.specs.Outcome.{LoadsText, IsProgramText, IsInputsText, ReadsProgram, ReadsInputs, RunsFor};
 ghost use Rattle.venice_run.specs.Request.{spad_of};
 
 use crate::addition::Addition;
 use crate::command::Command;
-use crate::items::items_of;
+use crate::items::{Item, items_of};
 use crate::operands::Operands;
 use crate::output::one_row_text;
 use crate::refusal::Refusal;
@@ -36,14 +38,23 @@ fn load_text<F: Files>(alloc: Global, files: &mut F, name: &str) -> Result<Vec<u
     }
 }
 
-// The addition whose program the text is. A text above the limit is refused before its bytes are looked at.
+// The items of a text within the limit: `None` where it has none, or is longer, before its bytes are looked at.
+fn items_within(alloc: Global, text: &[u8]) -> Result<Option<Vec<Item<'_>>>, AllocError>
+    ensures { IfOk result (λ found. MatchOption found
+        ((lexemes : List Lexeme) → length text.now ≤ text_limit → HasSmallNumbers lexemes → ¬ IsLexed text.now lexemes)
+        (λ items. (length text.now ≤ text_limit) × IsLexed text.now (lexemes_of items.items))) }
+{
+    if text.len() > TEXT_LIMIT {
+        return Ok(None);
+    }
+    items_of(alloc, text)
+}
+
+// The addition whose program the text is.
 fn program_of(alloc: Global, text: &[u8]) -> Result<Addition, Refusal>
     ensures { IsProgramText text.now result }
 {
-    if text.len() > TEXT_LIMIT {
-        return Err(Refusal::ProgramForm);
-    }
-    let Some(items) = items_of(alloc, text)? else {
+    let Some(items) = items_within(alloc, text)? else {
         return Err(Refusal::ProgramForm);
     };
     match Addition::from_items(&items) {
@@ -57,10 +68,7 @@ fn operands_of(alloc: Global, text: &[u8], addition: &Addition) -> Result<Operan
     requires { IsAddition (denoted addition.now) }
     ensures { IsInputsText text.now (denoted addition.now) result }
 {
-    if text.len() > TEXT_LIMIT {
-        return Err(Refusal::InputsForm);
-    }
-    let Some(items) = items_of(alloc, text)? else {
+    let Some(items) = items_within(alloc, text)? else {
         return Err(Refusal::InputsForm);
     };
     match Operands::from_items(alloc, &items, addition)? {

@@ -1,7 +1,9 @@
+//! The top call over files and sinks in memory, and the texts that it prints.
+
 use crate::{Command, Refusal, read_words, venice};
 use std::alloc::Global;
 use std::test::Fail;
-use ven_io::{Files, MemFiles, MemSink, Sink};
+use ven_io::{Files, MemFiles, MemSink, OutFault, Sink};
 
 const PROGRAM: &str = "input a u8[1,4];\ninput b u8[1,4];\noutput y = a + b;\n";
 
@@ -96,113 +98,58 @@ fn other_words_are_usage(rt: HostRuntime) -> Result<(), Fail> {
     Ok(())
 }
 
+static OTHER_PROGRAMS: [&str; 7] = [
+    "",
+    "input a u8[1,4]; input b u8[1,4]; output y = a - b;",
+    "input a u8[1,4]; input a u8[1,4]; output y = a + a;",
+    "input a u8[1,4]; input b u8[1,4]; output sum = a + b;",
+    "input a u8[1,0]; input b u8[1,0]; output y = a + b;",
+    "input a u8[1,2049]; input b u8[1,2049]; output y = a + b;",
+    "# \u{e9}\ninput a u8[1,4]; input b u8[1,4]; output y = a + b;",
+];
+
+static OTHER_INPUTS: [&str; 4] = [
+    "",
+    "a u8[1,4] 1 2 3 250 b u8[1,4] 4 5 6",
+    "a u8[1,4] 1 2 3 256 b u8[1,4] 4 5 6 10",
+    "b u8[1,4] 1 2 3 250 a u8[1,4] 4 5 6 10",
+];
+
+#[test]
+fn other_texts_are_of_no_form(rt: HostRuntime) -> Result<(), Fail> {
+    let alloc = rt.alloc();
+    for program in &OTHER_PROGRAMS {
+        // The scratchpad and INPUTS come later, whatever they are.
+        let (status, text) = reply(alloc, &["run", "P", "no", "M", "4", "1"], program, INPUTS)?;
+        assert_eq!(rt; status, 3, "{program}");
+        assert_eq!(rt; text.as_slice(), b"error: program form\n".as_slice());
+    }
+    for inputs in &OTHER_INPUTS {
+        let (status, text) = reply(alloc, &["run", "P", "I", "M", "4", "28"], PROGRAM, inputs)?;
+        assert_eq!(rt; status, 4, "{inputs}");
+        assert_eq!(rt; text.as_slice(), b"error: inputs form\n".as_slice());
+    }
+    Ok(())
+}
+
+/// PROGRAM, INPUTS, SPAD, the status and the line.
+static REFUSALS: [(&str, &str, &str, u8, &str); 6] = [
+    ("no", "I", "28", 8, "error: file missing\n"),
+    ("no", "no", "1", 8, "error: file missing\n"),
+    ("P", "I", "27", 5, "error: scratchpad need 28 have 27\n"),
+    ("P", "no", "27", 5, "error: scratchpad need 28 have 27\n"),
+    ("P", "no", "28", 8, "error: file missing\n"),
+    ("P", "P", "28", 4, "error: inputs form\n"),
+];
+
 #[test]
 fn the_first_refusal_is_answered(rt: HostRuntime) -> Result<(), Fail> {
     let alloc = rt.alloc();
-    let run = ["run", "P", "I", "M", "4", "28"];
-    let cases: [(&[&str], &str, &str, u8, &str); 14] = [
-        (
-            &["run", "P", "I", "M", "4", "27"],
-            PROGRAM,
-            INPUTS,
-            5,
-            "error: scratchpad need 28 have 27\n",
-        ),
-        (
-            &["run", "P", "no", "M", "4", "27"],
-            PROGRAM,
-            INPUTS,
-            5,
-            "error: scratchpad need 28 have 27\n",
-        ),
-        (
-            &run,
-            "input a u8[1,4];\ninput b u8[1,4];\noutput y = a - b;\n",
-            INPUTS,
-            3,
-            "error: program form\n",
-        ),
-        (
-            &["run", "P", "no", "M", "4", "1"],
-            "",
-            INPUTS,
-            3,
-            "error: program form\n",
-        ),
-        (
-            &run,
-            PROGRAM,
-            "a u8[1,4]\n1 2 3 250\nb u8[1,4]\n4 5 6\n",
-            4,
-            "error: inputs form\n",
-        ),
-        (
-            &run,
-            PROGRAM,
-            "a u8[1,4]\n1 2 3 256\nb u8[1,4]\n4 5 6 10\n",
-            4,
-            "error: inputs form\n",
-        ),
-        (
-            &run,
-            PROGRAM,
-            "b u8[1,4]\n1 2 3 250\na u8[1,4]\n4 5 6 10\n",
-            4,
-            "error: inputs form\n",
-        ),
-        (
-            &["run", "no", "I", "M", "4", "28"],
-            PROGRAM,
-            INPUTS,
-            8,
-            "error: file missing\n",
-        ),
-        (
-            &["run", "P", "no", "M", "4", "28"],
-            PROGRAM,
-            INPUTS,
-            8,
-            "error: file missing\n",
-        ),
-        (
-            &run,
-            "input a u8[1,4]; input a u8[1,4]; output y = a + a;",
-            INPUTS,
-            3,
-            "error: program form\n",
-        ),
-        (
-            &run,
-            "input a u8[1,4]; input b u8[1,4]; output sum = a + b;",
-            INPUTS,
-            3,
-            "error: program form\n",
-        ),
-        (
-            &run,
-            "input a u8[1,0]; input b u8[1,0]; output y = a + b;",
-            INPUTS,
-            3,
-            "error: program form\n",
-        ),
-        (
-            &run,
-            "input a u8[1,2049]; input b u8[1,2049]; output y = a + b;",
-            INPUTS,
-            3,
-            "error: program form\n",
-        ),
-        (
-            &run,
-            "# \u{e9}\ninput a u8[1,4]; input b u8[1,4]; output y = a + b;",
-            INPUTS,
-            3,
-            "error: program form\n",
-        ),
-    ];
-    for (words, program, inputs, want, line) in cases {
-        let (status, text) = reply(alloc, words, program, inputs)?;
-        assert_eq!(rt; status, want);
+    for row in &REFUSALS {
+        let (program, inputs, spad, want, line) = *row;
+        let words = ["run", program, inputs, "M", "4", spad];
+        let (status, text) = reply(alloc, &words, PROGRAM, INPUTS)?;
+        assert_eq!(rt; status, want, "{program} {inputs} {spad}");
         assert_eq!(rt; text.as_slice(), line.as_bytes());
     }
     Ok(())
@@ -230,23 +177,31 @@ fn a_name_has_up_to_31_bytes(rt: HostRuntime) -> Result<(), Fail> {
     Ok(())
 }
 
+// The text, and so many spaces that it has this length.
+fn padded(alloc: Global, text: &str, length: usize) -> Result<String, Fail> {
+    let mut padded = String::from_str(alloc, text)?;
+    for _ in text.len()..length {
+        padded.push_str(" ")?;
+    }
+    Ok(padded)
+}
+
 #[test]
-fn a_program_has_up_to_65536_bytes(rt: HostRuntime) -> Result<(), Fail> {
+fn both_texts_have_up_to_65536_bytes(rt: HostRuntime) -> Result<(), Fail> {
     let alloc = rt.alloc();
-    for (len, want) in [(65_536usize, 0u8), (65_537, 3)] {
-        let mut program = String::from_str(alloc, PROGRAM)?;
-        let more = len.saturating_sub(program.len());
-        for _ in 0..more {
-            program.push_str(" ")?;
-        }
-        assert_eq!(rt; program.len(), len);
-        let (status, _) = reply(
-            alloc,
-            &["run", "P", "I", "M", "4", "28"],
-            program.as_str(),
-            INPUTS,
-        )?;
+    // The lengths of the program and of the array file, the status and the text.
+    let cases = [
+        (65_536, 65_536, 0, SUMS),
+        (65_537, 65_536, 3, "error: program form\n"),
+        (65_536, 65_537, 4, "error: inputs form\n"),
+    ];
+    for (program, inputs, want, line) in cases {
+        let program = padded(alloc, PROGRAM, program)?;
+        let inputs = padded(alloc, INPUTS, inputs)?;
+        let words = ["run", "P", "I", "M", "4", "28"];
+        let (status, text) = reply(alloc, &words, program.as_str(), inputs.as_str())?;
         assert_eq!(rt; status, want);
+        assert_eq!(rt; text.as_slice(), line.as_bytes());
     }
     Ok(())
 }
@@ -255,12 +210,13 @@ fn a_program_has_up_to_65536_bytes(rt: HostRuntime) -> Result<(), Fail> {
 fn faults_of_the_outside_have_their_status(rt: HostRuntime) -> Result<(), Fail> {
     let alloc = rt.alloc();
     // The scratchpad, which load fails, which put fails, the status, and what the sink has taken.
-    // INPUTS is loaded only once the scratchpad was found large enough.
-    let cases: [(&str, u64, u64, u8, &[u8]); 6] = [
+    // INPUTS is loaded only once the scratchpad was found large enough, and no third load is made.
+    let cases: [(&str, u64, u64, u8, &[u8]); 7] = [
         ("28", 0, 0, 0, b"y u8[1,4]\n5 7 9 4\n"),
         ("28", 0, 2, 9, b"y u8[1,4]\n5 7 "),
         ("28", 1, 0, 8, b"error: file\n"),
         ("28", 2, 0, 8, b"error: file\n"),
+        ("28", 3, 0, 0, b"y u8[1,4]\n5 7 9 4\n"),
         ("27", 2, 0, 5, b"error: scratchpad need 28 have 27\n"),
         ("28", 1, 1, 9, b"error:"),
     ];
@@ -274,6 +230,46 @@ fn faults_of_the_outside_have_their_status(rt: HostRuntime) -> Result<(), Fail> 
         assert_eq!(rt; files.get("I"), Some(INPUTS.as_bytes()));
         assert_eq!(rt; files.get("M"), None);
     }
+    Ok(())
+}
+
+/// A sink with memory for one piece.
+#[derive(Drop)]
+struct OnePiece {
+    bytes: Vec<u8>,
+    is_full: bool,
+}
+
+impl Sink for OnePiece {
+    ghost use Rattle.std.specs.Prelude.{Some};
+
+    ghost taken = { λ s. Some s.bytes.items };
+
+    ghost faults = { λ _. 0 };
+
+    fn put(&mut self, bytes: &[u8]) -> Result<(), OutFault> {
+        if self.is_full {
+            return Err(OutFault::Memory);
+        }
+        self.bytes
+            .extend_from_slice(bytes)
+            .map_err(|_| OutFault::Memory)?;
+        self.is_full = true;
+        Ok(())
+    }
+}
+
+#[test]
+fn lines_stand_where_a_put_lacks_memory(rt: HostRuntime) -> Result<(), Fail> {
+    let alloc = rt.alloc();
+    let mut files = files_with(alloc, PROGRAM, INPUTS, Vec::new(alloc))?;
+    let mut out = OnePiece {
+        bytes: Vec::new(alloc),
+        is_full: false,
+    };
+    let words = ["run", "P", "I", "M", "4", "28"];
+    assert_eq!(rt; status(alloc, &words, &mut files, &mut out)?, 10);
+    assert_eq!(rt; out.bytes.as_slice(), b"y u8[1,4]\n".as_slice());
     Ok(())
 }
 

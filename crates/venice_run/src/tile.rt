@@ -10,7 +10,8 @@ use venice_isa::{DmaWork, Issue, VecKind, VecOp, VecWork};
 
 /// The list that adds two arrays of `u8[1,cols]` from memory, `cols` from 1 to 2,048: it reads both, adds
 /// them in the scratchpad and writes the sums back. In memory the first array stands at place 0, the
-/// second and the sums each at the next multiple of 4. `one_tile_adds` says what the list does.
+/// second and the sums each at the next multiple of 4. `one_tile_adds` says what the list does; the issues
+/// are those of docs/MACHINE.md. `AllocError` where there is no memory for the list.
 pub fn one_tile(alloc: Global, cols: u32) -> Result<Vec<Issue>, AllocError>
     requires some { 1 ≤ cols }
     requires few { cols ≤ 2048 }
@@ -141,6 +142,7 @@ mod tests {
         ];
         let list = one_tile(rt.alloc(), 4)?;
         assert_eq!(rt; list.as_slice(), want.as_slice());
+        one_tile_adds();
         Ok(())
     }
 }

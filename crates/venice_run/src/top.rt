@@ -5,7 +5,9 @@ ghost use Rattle.ven_io.specs.Faults.{Rose, CountsFaults};
 ghost use Rattle.ven_io.specs.Sink.{Takes};
 ghost use Rattle.venice_run.specs.Words.{texts_of};
 ghost use Rattle.venice_run.specs.Refusal.{line_of};
-ghost use Rattle.venice_run.specs.Ending.{Answers, Puts, PutsRefusal, TakesReply, TakesPartOfAny, TakesLinesOfAny, Ends};
+ghost use Rattle.venice_run.specs.Ending.{TakesReply, TakesPartOfAny, TakesLinesOfAny};
+ghost use Rattle.venice_run.specs.Outcome.{Answers};
+ghost use Rattle.venice_run.specs.Putting.{Puts, PutsRefusal, Ends};
 
 use crate::command::read_words;
 use crate::lines::put_lines;
@@ -24,6 +26,7 @@ const MEMORY_LINE: &[u8] = b"error: memory\n";
 ///
 /// The reply goes to the sink: the command's output, or the one line of its first refusal. Status 8 with
 /// `error: file` comes only where a load failed, status 9 only where a put failed, and status 10 where memory ran out.
+/// docs/FORMATS.md has the words, the output and the order of the refusals, docs/LANGUAGE.md the program's form.
 pub fn venice<F: Files, S: Sink>(alloc: Global, words: &[String], files: &mut F, out: &mut S) -> u8
     // Where nothing outside failed, the whole reply was put.
     ensures reply { ¬ Rose (F.load_faults files.old) (F.load_faults files.new) → ¬ Rose (S.faults out.old) (S.faults out.new) → result ≢ 10
@@ -34,9 +37,10 @@ pub fn venice<F: Files, S: Sink>(alloc: Global, words: &[String], files: &mut F,
         → (F.load_faults files.new ≡ F.load_faults files.old) × (S.faults out.new ≡ S.faults out.old)
         × TakesReply (texts_of words.now) (F.held files.old) (F.held files.new) (S.taken out.old) (S.taken out.new) result }
 
-    // A file isn't there, or a load failed.
+    // A file isn't there, and no load failed; or one did.
     ensures file { result ≡ 8 → (S.faults out.new ≡ S.faults out.old)
-        × (TakesReply (texts_of words.now) (F.held files.old) (F.held files.new) (S.taken out.old) (S.taken out.new) 8
+        × (((F.load_faults files.new ≡ F.load_faults files.old)
+        × TakesReply (texts_of words.now) (F.held files.old) (F.held files.new) (S.taken out.old) (S.taken out.new) 8)
         ⊎ (Rose (F.load_faults files.old) (F.load_faults files.new) × Takes (S.taken out.old) (S.taken out.new) (line_of Refusal.File))) }
 
     // A put failed.

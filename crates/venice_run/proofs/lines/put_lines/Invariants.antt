@@ -1,6 +1,6 @@
 use Rattle.std.proofs.Common.{◌≡◌, ◌⊎◌, ◌-◌, ◌≤◌, length, take}
 use Rattle.ven_io.specs.Sink.{Takes}
-use Rattle.venice_run.specs.Lines.{IsLineStart}
+use Rattle.venice_run.specs.Ending.{IsLineStart}
 use Rattle.venice_run.proofs.lines.put_lines.Given as goal
 
 abbrev pub invariant-loop-start : goal.invariant-loop-start

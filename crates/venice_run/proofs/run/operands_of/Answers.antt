@@ -12,5 +12,5 @@ returns-in_default c = no_operands_lexed c.args.text.now (denoted c.args.additio
 pub returns : goal.returns
 returns c =
     no_operands c.args.text.now (denoted c.args.addition.now) (lexemes_of c.deref.result.now)
-    (subst (λ (l : List Item). IsLexed c.args.text.now (lexemes_of l)) (sym c.deref.ensures.value) (rw c.in-Some.is at c.in_ok-items.ensures))
+    (subst (λ (l : List Item). IsLexed c.args.text.now (lexemes_of l)) (sym c.deref.ensures.value) (rw c.in-Some.is at c.in_ok-items.ensures).1)
     (rw c.in-None.is at c.in_ok-operands.ensures)
