@@ -27,7 +27,7 @@ impl MainMem {
     /// The most bytes that a memory has.
     pub const MOST: u32 = 134_217_728;
 
-    /// A memory of so many bytes, all 0. Condition: `bytes` is at most 134,217,728. Err only for want of memory.
+    /// A memory of so many bytes, all 0. Condition: `bytes` is at most 134,217,728. Err is want of memory.
     pub fn new(alloc: Global, bytes: u32) -> Result<MainMem, AllocError>
         requires { bytes ≤ Self.MOST }
         ensures { IfOk result (λ memory. memory ≡ replicate bytes 0) }

@@ -30,7 +30,7 @@ impl Spad {
     pub const MOST: u32 = 1_048_576;
 
     /// A scratchpad of so many cells, whose bytes are 0 and whose flags are clear. Condition: `bytes`, the number of its
-    /// cells, is from 1 to 1,048,576. Err only for want of memory.
+    /// cells, is from 1 to 1,048,576. Err is want of memory.
     pub fn new(alloc: Global, bytes: u32) -> Result<Spad, AllocError>
         requires some { 0 < bytes }
         requires few { bytes ≤ Self.MOST }
