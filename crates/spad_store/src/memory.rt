@@ -1,29 +1,33 @@
+//! The memory of the vector machine.
+
 ghost use Rattle.std.specs.Prelude.{◌≡◌, ◌<◌, ◌≤◌, IfOk, length, replicate, slice_index, slice_set};
 
 use std::alloc::{AllocError, Global};
 use std::marker::Model;
 
-/// The memory: bytes by their place from 0 on.
+/// The memory: bytes by their place from 0 on, none to 134,217,728 of them (docs/MACHINE.md, "Cells and memory"). It is
+/// seen as the list of its bytes.
 #[derive(Debug, Drop)]
 pub struct MainMem {
     bytes: Vec<u8>,
 }
 
 impl Model for MainMem {
-    ghost use Rattle.std.specs.Prelude.{ℕ, List, length, ◌<◌, ◌^◌};
+    ghost use Rattle.std.specs.Prelude.{ℕ, List, length, ◌≤◌};
+    ghost use Rattle.spad_store.specs.Sizes.{most_bytes};
 
     ghost Value = { List ℕ };
 
     ghost view = { λ memory. memory.bytes.items };
 
-    ghost invariant = { λ memory. length memory.bytes.items < 2 ^ 32 };
+    ghost invariant = { λ memory. length memory.bytes.items ≤ most_bytes };
 }
 
 impl MainMem {
-    /// The most bytes that there may be.
+    /// The most bytes that a memory has.
     pub const MOST: u32 = 134_217_728;
 
-    /// A memory of so many bytes, all 0.
+    /// A memory of so many bytes, all 0. Condition: `bytes` is at most 134,217,728. Err is want of memory.
     pub fn new(alloc: Global, bytes: u32) -> Result<MainMem, AllocError>
         requires { bytes ≤ Self.MOST }
         ensures { IfOk result (λ memory. memory ≡ replicate bytes 0) }
@@ -32,14 +36,15 @@ impl MainMem {
         Ok(MainMem { bytes })
     }
 
-    /// The number of bytes.
+    /// The number of bytes, at most 134,217,728.
     pub fn len(&self) -> u32
-        ensures { result ≡ length self.now }
+        ensures count { result ≡ length self.now }
+        ensures few { result ≤ Self.MOST }
     {
         self.bytes.len() as u32
     }
 
-    /// The byte at a place.
+    /// The byte at a place. Condition: `at` is below `len`.
     pub fn byte(&self, at: u32) -> u8
         requires { at < length self.now }
         ensures { result ≡ slice_index self.now at }
@@ -47,7 +52,7 @@ impl MainMem {
         self.bytes[at as usize]
     }
 
-    /// Puts a byte at a place, and changes no other.
+    /// Puts a byte at a place, and changes no other. Condition: `at` is below `len`.
     pub fn put(&mut self, at: u32, byte: u8)
         requires { at < length self.old }
         ensures { self.new ≡ slice_set self.old at byte }

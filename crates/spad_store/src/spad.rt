@@ -1,30 +1,36 @@
-ghost use Rattle.std.specs.Prelude.{◌≡◌, ◌<◌, ◌≤◌, ◌^◌, false, IfOk, length, replicate, slice_set};
+//! The scratchpad of the vector machine.
+
+ghost use Rattle.std.specs.Prelude.{◌≡◌, ◌<◌, ◌≤◌, false, IfOk, length, replicate, slice_set};
 ghost use Rattle.spad_store.specs.Cells.{byte_at, flag_at};
 
 use std::alloc::{AllocError, Global};
 use std::marker::Model;
 
-/// The scratchpad: cells by their place from 0 on, each a byte and the flag beside it.
+/// The scratchpad: cells by their place from 0 on, 1 to 1,048,576 of them, each a byte and the flag beside it
+/// (docs/MACHINE.md, "Cells and memory"). It is seen as the list of its cells.
 #[derive(Debug, Drop)]
 pub struct Spad {
     cells: Vec<(u8, bool)>,
 }
 
 impl Model for Spad {
-    ghost use Rattle.std.specs.Prelude.{ℕ, Bool, List, length, ◌<◌, ◌^◌};
+    ghost use Rattle.std.specs.Prelude.{List, length};
+    ghost use Rattle.ven_base.specs.Cell.{Cell};
+    ghost use Rattle.spad_store.specs.Sizes.{IsSpadSize};
 
-    ghost Value = { List (ℕ × Bool) };
+    ghost Value = { List Cell };
 
     ghost view = { λ spad. spad.cells.items };
 
-    ghost invariant = { λ spad. length spad.cells.items < 2 ^ 32 };
+    ghost invariant = { λ spad. IsSpadSize (length spad.cells.items) };
 }
 
 impl Spad {
-    /// The most cells that there may be.
+    /// The most cells that a scratchpad has.
     pub const MOST: u32 = 1_048_576;
 
-    /// A scratchpad of so many cells, whose bytes are 0 and whose flags are clear.
+    /// A scratchpad of so many cells, whose bytes are 0 and whose flags are clear. Condition: `bytes`, the number of its
+    /// cells, is from 1 to 1,048,576. Err is want of memory.
     pub fn new(alloc: Global, bytes: u32) -> Result<Spad, AllocError>
         requires some { 0 < bytes }
         requires few { bytes ≤ Self.MOST }
@@ -34,14 +40,16 @@ impl Spad {
         Ok(Spad { cells })
     }
 
-    /// The number of cells.
+    /// The number of cells, 1 to 1,048,576.
     pub fn len(&self) -> u32
-        ensures { result ≡ length self.now }
+        ensures count { result ≡ length self.now }
+        ensures some { 0 < result }
+        ensures few { result ≤ Self.MOST }
     {
         self.cells.len() as u32
     }
 
-    /// The byte of a cell.
+    /// The byte of a cell. Condition: `at` is below `len`.
     pub fn byte(&self, at: u32) -> u8
         requires { at < length self.now }
         ensures { result ≡ byte_at self.now at }
@@ -49,7 +57,7 @@ impl Spad {
         self.cells[at as usize].0
     }
 
-    /// The flag of a cell.
+    /// The flag of a cell. Condition: `at` is below `len`.
     pub fn flag(&self, at: u32) -> bool
         requires { at < length self.now }
         ensures { result ≡ flag_at self.now at }
@@ -57,7 +65,7 @@ impl Spad {
         self.cells[at as usize].1
     }
 
-    /// Puts a byte and a flag into a cell, and changes no other.
+    /// Puts a byte and a flag into a cell, and changes no other. Condition: `at` is below `len`.
     pub fn put(&mut self, at: u32, byte: u8, flag: bool)
         requires { at < length self.old }
         ensures { self.new ≡ slice_set self.old at (byte, flag) }

@@ -1,3 +1,5 @@
+//! What every unit of the machine keeps to.
+
 ghost use Rattle.std.specs.Prelude.{◌≡◌, ℕ, ◌+◌, ◌<◌, ◌≤◌, ◌↔◌, List, [], ◌∷◌, ◌++◌, length, drop, slice_get, All, IsTrue, IsFalse, IsErr, OnOk, OnErr, IfErr, IfSome};
 ghost use Rattle.ven_base.specs.Cell.{Cell};
 ghost use Rattle.spad_store.specs.Footprint.{TouchesBelow, WritesOnly, AgreesOn, ChangesAlike};
@@ -5,7 +7,7 @@ ghost use Rattle.spad_store.specs.Queue.{IsQueue};
 
 use crate::{MainMem, Spad};
 
-/// A unit of the machine: a queue of works, of which the first is done beat by beat.
+/// A unit of the machine: a queue of works, of which the first is done beat by beat (docs/MACHINE.md, "Beats" and "Footprints").
 ///
 /// What a work is, which bytes it reads and writes and what its beats are is for each unit to say.
 /// The laws hold of every unit: a beat changes only bytes of the first work's write footprint, what
@@ -62,7 +64,8 @@ pub trait Unit {
     /// What the unit was made with.
     ghost setting: { Self → Setting };
 
-    /// Puts a work last into the queue. A full queue gives it back.
+    /// Puts a work last into the queue. Condition: no count of the work is 0. Err gives the work back, with nothing
+    /// changed, exactly where the queue is full.
     fn offer(&mut self, work: Self::Work) -> Result<(), Self::Work>
         requires { has_counts work }
 
@@ -80,13 +83,14 @@ pub trait Unit {
         ensures in_order { IsQueue has_counts places (beats (setting self.now)) done not_begun (queue self.now) (progress self.now) }
         ensures setting { can_have (setting self.now) };
 
-    /// A work of the queue, counted from 0 at its front.
+    /// A work of the queue, counted from 0 at its front. Condition: `k` is below `unfinished`.
     fn work(&self, k: u32) -> &Self::Work
         requires { k < length (queue self.now) }
         ensures { slice_get (queue self.now) k ≡ Some result.now };
 
-    /// Does the next beat of the queue's first work, and takes the work out of the queue with its
-    /// last beat. False, with nothing changed, where the queue is empty.
+    /// Does the next beat of the queue's first work, and takes the work out of the queue with its last beat. False, with
+    /// nothing changed, exactly where the queue is empty. Condition: the footprints of all works of the queue lie inside
+    /// `cells` and `memory`.
     fn beat(&mut self, cells: &mut Spad, memory: &mut MainMem) -> bool
         requires cells_inside { All (λ work. TouchesBelow (reads_cell work) (writes_cell work) (length cells.old)) (queue self.old) }
         requires memory_inside { All (λ work. TouchesBelow (reads_memory work) (writes_memory work) (length memory.old)) (queue self.old) }

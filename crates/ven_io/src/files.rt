@@ -1,3 +1,5 @@
+//! Files by name: the trait over them, and why a load gives nothing.
+
 ghost use Rattle.std.specs.Prelude.{◌≡◌, ◌↔◌, ℕ, Option, None, IfOk, OnOk, IsErrOf};
 ghost use Rattle.ven_io.specs.Faults.{CountsFaults};
 ghost use Rattle.ven_io.specs.Files.{Held, Shows, Loads, Saves, OthersStay};
@@ -29,8 +31,9 @@ pub trait Files {
     /// How many saves have failed.
     ghost save_faults: { Self → ℕ };
 
-    /// The first `most + 1` bytes of the file, or all where there are fewer.
-    /// Missing exactly where the files tell that no file has that name; Failed only where a read failed.
+    /// The first `most + 1` bytes of the file, or all where there are fewer. No file is changed.
+    /// Missing exactly where the files tell that no file has that name; Failed only where the count of loads rose;
+    /// Memory is want of memory.
     fn load(&mut self, alloc: Global, name: &str, most: u64) -> Result<Vec<u8>, LoadFault>
         ensures loaded { IfOk result (λ bytes. Loads (held self.old) name.now most bytes.items) }
         ensures missing { IsErrOf result LoadFault.Missing ↔ Shows (held self.old) name.now None }
@@ -38,8 +41,8 @@ pub trait Files {
         ensures loads { CountsFaults (load_faults self.old) (load_faults self.new) (IsErrOf result LoadFault.Failed) }
         ensures saves { save_faults self.new ≡ save_faults self.old };
 
-    /// Sets the file's bytes. After Failed that name may hold anything, and every other file stays;
-    /// after Memory no file has changed.
+    /// Sets the file's bytes, and leaves every other file. Failed only where the count of saves rose; then that name may
+    /// hold anything, and every other file stays. After Memory no file has changed.
     fn save(&mut self, name: &str, bytes: &[u8]) -> Result<(), OutFault>
         ensures saved { OnOk result (Saves (held self.old) (held self.new) name.now bytes.now) }
         ensures failed { IsErrOf result OutFault.Failed → OthersStay (held self.old) (held self.new) name.now }

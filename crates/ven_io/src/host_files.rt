@@ -1,3 +1,5 @@
+//! The real files.
+
 ghost use Rattle.std.specs.Prelude.{◌≡◌, ◌≤◌, ◌<◌, ◌+◌, None, IfOk, OnOk, IsErrOf, IsOkUnless, vec_len, length};
 ghost use Rattle.ven_io.specs.Faults.{CountsFaults};
 ghost use Rattle.ven_io.specs.Files.{Loads};

@@ -1,3 +1,5 @@
+//! The standard output.
+
 ghost use Rattle.std.specs.Prelude.{◌≡◌, None, OnOk, IsErrOf};
 ghost use Rattle.ven_io.specs.Faults.{CountsFaults};
 

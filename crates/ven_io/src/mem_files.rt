@@ -1,3 +1,5 @@
+//! Files in memory.
+
 ghost use Rattle.std.specs.Prelude.{◌≡◌, ◌≤◌, ◌+◌, ◌↔◌, ℕ, List, [], take, Option, None, Some, IsSome, IfOk, OnOk, OnErr, IsErrOf, IsOkUnless, length};
 ghost use Rattle.std.specs.Option.{option_map};
 ghost use Rattle.std.specs.FinMap.{empty, get, insert};
@@ -52,7 +54,7 @@ impl MemFiles {
         }
     }
 
-    /// Sets a file's bytes. It is no call that is numbered.
+    /// Sets a file's bytes. It is no call that is numbered. Err, with nothing changed, is want of memory.
     pub fn add(&mut self, name: &str, bytes: Vec<u8>) -> Result<(), AllocError>
         ensures ok { OnOk result (self.new ≡ record self.old { holds = insert self.old.holds name.now bytes.items }) }
         ensures err { OnErr result (self.new ≡ self.old) }
@@ -73,7 +75,7 @@ impl MemFiles {
     }
 }
 
-// The first `most + 1` bytes, or all where there are fewer.
+/// The first `most + 1` bytes, or all where there are fewer.
 fn first_bytes(alloc: Global, bytes: &[u8], most: u64) -> Result<Vec<u8>, AllocError>
     ensures { IfOk result (λ first. first.items ≡ take (most + 1) bytes.now) }
 {

@@ -1,3 +1,5 @@
+//! A sink in memory.
+
 ghost use Rattle.std.specs.Prelude.{◌≡◌, ◌/◌, ◌++◌, [], take, length, Some, OnOk, IsErrOf};
 ghost use Rattle.ven_io.specs.Faults.{CountsFaults, one_more};
 ghost use Rattle.ven_io.specs.Sink.{TakesPart};

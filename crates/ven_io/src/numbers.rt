@@ -9,7 +9,7 @@ ghost use Rattle.ven_io.specs.Runs.{digits_run};
 use crate::runs::{Run, run_end};
 use thiserror::Error;
 
-/// Why a text is no number.
+/// Why a text is no number (docs/LANGUAGE.md, "Numbers").
 #[derive(Clone, Copy, Debug, PartialEq, Eq, Error)]
 pub enum NumberFault {
     /// No byte stands in a digit's place: the text is empty, or `0x`.
@@ -76,10 +76,12 @@ fn number_from(text: &[u8], start: usize, run: Run, base: u64) -> Result<i64, Nu
     Ok(value as i64)
 }
 
-/// The value of a number's text: decimal, or hexadecimal after `0x`. Leading zeros count for nothing.
+/// The value of a number's text, 0 to 4,294,967,295: decimal, or hexadecimal after `0x`. Leading zeros count for nothing
+/// (docs/LANGUAGE.md, "Numbers"). Condition: the length is below 2^31 bytes.
 ///
-/// `Empty` where no byte stands in a digit's place, `NotDigit` at the first byte there that isn't a digit of the base,
-/// `TooLarge` where all are digits and the value is above 4,294,967,295.
+/// `Empty` exactly for the empty text and for `0x`, where no byte stands in a digit's place; `NotDigit` exactly at the
+/// first byte there that isn't a digit of the base; `TooLarge` exactly where all are digits and the value is above
+/// 4,294,967,295.
 pub fn number(text: &[u8]) -> Result<i64, NumberFault>
     requires { length text.now < 2 ^ 31 }
     ensures { NumberIs text.now result }

@@ -1,3 +1,5 @@
+//! Files and sinks, each call on its happy path and at its faults.
+
 use crate::pieces::{read_first, write_whole};
 use crate::{Files, HostFiles, HostSink, LoadFault, MemFiles, MemSink, OutFault, Sink};
 use std::alloc::Global;

@@ -1,3 +1,5 @@
+//! Whole texts through any reader and any writer, read by read and write by write.
+
 ghost use Rattle.std.specs.Prelude.{◌≡◌, ◌≤◌, ◌<◌, ◌+◌, ◌++◌, List, ℕ, IfOk, IfSome, OnOk, OnErr, IsErrOf, IsOkUnless, take, vec_len, length};
 ghost use Rattle.std.specs.Io.KnownBytes.{Appends, Consumes, IsAtEnd};
 ghost use Rattle.ven_io.specs.Pieces.{AppendsPart};
@@ -9,7 +11,7 @@ use std::io::{Read, Write};
 /// How many bytes are read at once, at most.
 const PIECE: usize = 65_536;
 
-// One read into the buffer, which goes behind the bytes that are there. It says how many came: none only at the end.
+/// One read into the buffer, which goes behind the bytes that are there. It says how many came: none only at the end.
 fn read_piece<R: Read>(
     reader: &mut R,
     buffer: &mut [u8],

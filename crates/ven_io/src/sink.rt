@@ -1,3 +1,5 @@
+//! Where output goes: the trait over it, and why a save or a put is not done.
+
 ghost use Rattle.std.specs.Prelude.{◌≡◌, ℕ, List, Option, OnOk, IsErrOf};
 ghost use Rattle.ven_io.specs.Faults.{CountsFaults};
 ghost use Rattle.ven_io.specs.Sink.{Takes, TakesPart};
@@ -22,7 +24,8 @@ pub trait Sink {
     /// How many puts have failed.
     ghost faults: { Self → ℕ };
 
-    /// Appends all the bytes. After Failed a prefix of them was taken; after Memory nothing of them.
+    /// Appends all the bytes. Failed only where the count rose; then a prefix of them was taken. After Memory nothing of
+    /// them was taken.
     fn put(&mut self, bytes: &[u8]) -> Result<(), OutFault>
         ensures whole { OnOk result (Takes (taken self.old) (taken self.new) bytes.now) }
         ensures part { IsErrOf result OutFault.Failed → TakesPart (taken self.old) (taken self.new) bytes.now }

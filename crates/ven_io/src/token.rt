@@ -2,7 +2,7 @@
 
 use thiserror::Error;
 
-/// What a token is. `End` is the text's end, which has no bytes.
+/// What a token is (docs/LANGUAGE.md, "Tokens"). `End` is the text's end, which has no bytes.
 #[derive(Clone, Copy, Debug, PartialEq, Eq)]
 pub enum TokenKind {
     Name,

@@ -1,4 +1,5 @@
 pub mod Regions
+pub mod Ranges
 pub mod Wholes
 pub mod Overwrites
 pub mod Copies

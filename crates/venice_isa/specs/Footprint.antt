@@ -97,6 +97,20 @@ WritesMemory (RWait count) p = ⊥
 WritesMemory (WWait count) p = ⊥
 WritesMemory VWait p = ⊥
 
+-- these places lie below an end
+abbrev pub AreBelow : (ℕ → Type 0) → ℕ → Type 0
+AreBelow places end = (p : ℕ) → places p → p < end
+
+-- every cell that a vector instruction reads or writes is one of so many; it touches no memory
+pub record IsInCells (work : VecWork) (cells : ℕ) : Type 0 where
+  pub reads : AreBelow (ReadsCell (Vector work)) cells
+  pub writes : AreBelow (WritesCell (Vector work)) cells
+
+-- every byte of a transfer lies in so many cells on the one side and so many bytes of memory on the other
+pub record IsInCellsAndMemory (work : DmaWork) (cells memory : ℕ) : Type 0 where
+  pub cell : AreBelow (Covers (cells_of work)) cells
+  pub memory_byte : AreBelow (Covers (memory_of work)) memory
+
 -- every byte that an issue reads or writes lies in so many cells and so many bytes of memory
 pub record IsInRange (issue : Issue) (cells memory : ℕ) : Type 0 where
   pub reads_cells : (p : ℕ) → ReadsCell issue p → p < cells

@@ -9,7 +9,8 @@ use ven_base::Elem;
 
 /// What a vector instruction does with its elements: the operation, the type `elem` of its results
 /// and of B, the type `from` of A, whether A or B is a scalar parameter, and whether the results of
-/// a row are added into one element.
+/// a row are added into one element. The mode is one that the operation allows, and `from` is `elem` unless
+/// the operation is `Cast` (docs/MACHINE.md, "Operations").
 #[derive(Clone, Copy, Debug, PartialEq, Eq, Hash)]
 pub struct VecKind {
     pub op: VecOp,
@@ -55,8 +56,8 @@ impl VecKind {
         })
     }
 
-    /// How many elements a beat of so many lanes, 1 to 4, takes at the most: 4 bytes a lane, by the greater of
-    /// the two sizes of a cast.
+    /// How many elements a beat of so many lanes, 1 to 4, takes at the most (docs/MACHINE.md, "Beats"): 4 bytes a lane,
+    /// by the greater of the two sizes of a cast.
     pub fn group(self, lanes: u32) -> u32
         requires some_lanes { 0 < lanes }
         requires few_lanes { lanes ≤ 4 }

@@ -1,4 +1,4 @@
-//! The laws of the machine's work, each as a function without arguments whose contract is the law.
+//! The laws of the machine's work (docs/MACHINE.md), each as a function without arguments whose contract is the law.
 
 ghost use Rattle.venice_isa.specs.Laws.{RowsApartKeepElementsApart, WholeWritesItsFootprint, WholeReadsItsFootprint, WholeIsDetermined, ReadCopiesItsRows, WriteCopiesItsRows, BytesSpellTheirNumber, NumbersHaveOneSpelling, BeatsAreTheWhole, BeatsAreTheCopy};
 
@@ -54,3 +54,22 @@ pub fn beats_are_the_whole()
 pub fn beats_are_the_copy()
     ensures { BeatsAreTheCopy }
 {}
+
+#[cfg(test)]
+mod tests {
+    use super::*;
+
+    #[test]
+    fn laws_are_called() {
+        rows_apart_keep_elements_apart();
+        whole_writes_its_footprint();
+        whole_reads_its_footprint();
+        whole_is_determined();
+        read_copies_its_rows();
+        write_copies_its_rows();
+        bytes_spell_their_number();
+        numbers_have_one_spelling();
+        beats_are_the_whole();
+        beats_are_the_copy();
+    }
+}

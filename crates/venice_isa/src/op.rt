@@ -1,26 +1,45 @@
 //! The operations of vector instructions.
 
-/// An operation of the lanes. `Mov`, `Cast` and `Abs` take A alone, the others A and B; `Cmov`
-/// writes A where the flag of B is set.
+/// An operation of the lanes, as docs/MACHINE.md ("Operations") says: what it answers at A and B. The answers are
+/// whole numbers that wrap into the results' type. A comparison sets the flags of an element where it answers 1; every
+/// other write clears them.
 #[derive(Clone, Copy, Debug, PartialEq, Eq, Hash)]
 pub enum VecOp {
+    /// A.
     Mov,
+    /// A, of its own type, wrapped into the results'.
     Cast,
+    /// A + B.
     Add,
+    /// A - B.
     Sub,
+    /// A · B.
     Mul,
+    /// The bits that both have.
     And,
+    /// The bits that one of them has.
     Or,
+    /// The bits that just one of them has.
     Xor,
+    /// A · 2^k, where k is B modulo the type's width in bits.
     Shl,
+    /// A divided by 2^k, rounded down, where k is B modulo the type's width in bits.
     Shr,
+    /// The lesser of the two.
     Min,
+    /// The greater of the two.
     Max,
+    /// A without its sign; of a signed type's least number that number again.
     Abs,
+    /// 1 where A = B, else 0. It sets flags.
     Eq,
+    /// 1 where A and B differ, else 0. It sets flags.
     Ne,
+    /// 1 where A < B, else 0. It sets flags.
     Lt,
+    /// 1 where A ≤ B, else 0. It sets flags.
     Le,
+    /// A, where the flag of the first byte of B's element is set; else the element is left alone.
     Cmov,
 }
 
@@ -28,7 +47,7 @@ impl VecOp {
     ghost use Rattle.std.specs.Prelude.{◌≡◌};
     ghost use Rattle.venice_isa.specs.Mode.{uses_b, is_comparison, is_conditional, allows_mode};
 
-    /// Whether the operation takes B.
+    /// Whether the operation takes B; each takes A.
     pub fn uses_b(self) -> bool
         ensures { result ≡ uses_b self }
     {

@@ -1,8 +1,8 @@
 //! Where elements, or bytes of a transfer, stand.
 
-/// Rows of elements, in cells or in memory. Row 0 begins at the byte `place`, and each row `step`
-/// bytes after the one before. In a row `columns` elements of `size` bytes stand one directly after
-/// the other.
+/// Rows of elements, in cells or in memory (docs/MACHINE.md, "Cells and memory"). Row 0 begins at the byte `place`, and
+/// each row `step` bytes after the one before. In a row `columns` elements of `size` bytes stand one directly after the
+/// other. Any numbers may stand here: places don't wrap, rows may overlap, and with a count of 0 there are no bytes.
 #[derive(Clone, Copy, Debug, PartialEq, Eq, Hash)]
 pub struct Region {
     pub place: u32,
@@ -16,7 +16,8 @@ impl Region {
     ghost use Rattle.std.specs.Prelude.{◌≡◌, ◌↔◌, ◌<◌, IsTrue};
     ghost use Rattle.venice_isa.specs.Region.{place_in, LiesBelow};
 
-    /// The byte at which element `column` of row `row` begins. The sum is exact.
+    /// The byte at which element `column` of row `row` begins, both counted from 0. The sum is exact, also past the
+    /// region's end.
     pub fn place_of(self, row: u32, column: u32) -> u128
         ensures { result ≡ place_in self row column }
     {
@@ -25,7 +26,7 @@ impl Region {
             + u128::from(column) * u128::from(self.size)
     }
 
-    /// Whether every byte of the region lies below `end`. A region without bytes does.
+    /// Whether every byte of the region lies below `end`. A region without bytes does. Constant time.
     pub fn lies_below(self, end: u32) -> bool
         ensures { IsTrue result ↔ LiesBelow self end }
     {

@@ -3,8 +3,10 @@
 use crate::kind::VecKind;
 use crate::region::Region;
 
-/// A vector instruction with its parameters. `vl` counts the elements of a row. `dst`, `a` and `b`
-/// are cells, or of `a` and `b` the number itself where it is a scalar; the steps count cells from row to row.
+/// A vector instruction with its parameters (docs/MACHINE.md, "Vector instructions"). `vl` counts the elements of a row,
+/// and `rows` the rows. `dst`, `a` and `b` are cells, in which row 0 begins; a scalar's number stands in `a` or `b`
+/// itself. The steps count cells from one row's beginning to the next. Any numbers may stand here: a unit takes no work
+/// with a count of 0, and `is_in_range` says whether the cells suffice.
 #[derive(Clone, Copy, Debug, PartialEq, Eq, Hash)]
 pub struct VecWork {
     pub kind: VecKind,
@@ -18,8 +20,9 @@ pub struct VecWork {
     pub b_step: u32,
 }
 
-/// A transfer between memory and cells. `mem` is a place in memory and `spad` a cell; each of the
-/// `rows` rows has `bytes` bytes, and the steps count bytes from row to row on either side.
+/// A transfer between memory and cells (docs/MACHINE.md, "Transfers"). `mem` is a place in memory and `spad` a cell, at
+/// which row 0 begins; each of the `rows` rows has `bytes` bytes, and the steps count bytes from one row's beginning to
+/// the next on either side. Any numbers may stand here, as in a `VecWork`.
 #[derive(Clone, Copy, Debug, PartialEq, Eq, Hash)]
 pub struct DmaWork {
     pub mem: u32,
@@ -31,11 +34,12 @@ pub struct DmaWork {
 }
 
 impl VecWork {
-    ghost use Rattle.std.specs.Prelude.{◌≡◌, ◌<◌, ◌≤◌};
-    ghost use Rattle.venice_isa.specs.Footprint.{source_a, source_b, destination, written_in_row};
+    ghost use Rattle.std.specs.Prelude.{◌≡◌, ◌<◌, ◌≤◌, ◌↔◌, IsTrue, IsFalse};
+    ghost use Rattle.venice_isa.specs.Mode.{uses_b};
+    ghost use Rattle.venice_isa.specs.Footprint.{source_a, source_b, destination, written_in_row, ReadsA, ReadsB, AreBelow, IsInCells};
     ghost use Rattle.venice_isa.specs.Beat.{beats_of_row, lane_group, vector_beats};
 
-    /// How many elements of a row are written: with accumulate one, of an empty row none.
+    /// How many elements of a row are written: all `vl`, or with accumulate one, of an empty row none.
     pub fn written_in_row(&self) -> u32
         ensures { result ≡ written_in_row self.now }
     {
@@ -46,7 +50,7 @@ impl VecWork {
         }
     }
 
-    /// Where A's elements stand, where A is no scalar.
+    /// Where A's elements stand in cells, where A is no scalar; else a region of no meaning.
     pub fn source_a(&self) -> Region
         ensures { result ≡ source_a self.now }
     {
@@ -59,7 +63,7 @@ impl VecWork {
         }
     }
 
-    /// Where B's elements stand, where B is used and is no scalar.
+    /// Where B's elements stand in cells, where B is used and is no scalar; else a region of no meaning.
     pub fn source_b(&self) -> Region
         ensures { result ≡ source_b self.now }
     {
@@ -72,7 +76,7 @@ impl VecWork {
         }
     }
 
-    /// Where the results go.
+    /// Where the results go in cells.
     pub fn destination(&self) -> Region
         ensures { result ≡ destination self.now }
     {
@@ -85,6 +89,42 @@ impl VecWork {
         }
     }
 
+    /// Whether A's cells, where A is no scalar, lie below `cells`.
+    fn has_a_below(&self, cells: u32) -> bool
+        ensures { IsTrue result ↔ AreBelow (ReadsA self.now) cells }
+    {
+        self.kind.a_scalar || self.source_a().lies_below(cells)
+    }
+
+    /// Whether B's elements stand in cells: whether B is used and is no scalar.
+    fn has_b_in_cells(&self) -> bool
+        ensures { IsTrue result ↔ (IsTrue (uses_b self.now.kind.op) × IsFalse self.now.kind.b_scalar) }
+    {
+        self.kind.op.uses_b() && !self.kind.b_scalar
+    }
+
+    /// Whether B's cells, where B is used and is no scalar, lie below `cells`.
+    fn has_b_below(&self, cells: u32) -> bool
+        ensures { IsTrue result ↔ AreBelow (ReadsB self.now) cells }
+    {
+        !self.has_b_in_cells() || self.source_b().lies_below(cells)
+    }
+
+    /// Whether the cells of both sources lie below `cells`.
+    fn has_sources_below(&self, cells: u32) -> bool
+        ensures { IsTrue result ↔ (AreBelow (ReadsA self.now) cells × AreBelow (ReadsB self.now) cells) }
+    {
+        self.has_a_below(cells) && self.has_b_below(cells)
+    }
+
+    /// Whether every cell that the instruction reads or writes is one of `cells` cells (docs/MACHINE.md, "Footprints").
+    /// An instruction with a count of 0 touches none, and so is in range. Constant time.
+    pub fn is_in_range(&self, cells: u32) -> bool
+        ensures { IsTrue result ↔ IsInCells self.now cells }
+    {
+        self.has_sources_below(cells) && self.destination().lies_below(cells)
+    }
+
     /// How many beats of so many lanes, 1 to 4, a row takes.
     pub fn row_beats(&self, lanes: u32) -> u32
         requires some_lanes { 0 < lanes }
@@ -94,7 +134,7 @@ impl VecWork {
         self.vl.div_ceil(self.kind.group(lanes))
     }
 
-    /// How many beats of so many lanes, 1 to 4, the instruction takes.
+    /// How many beats of so many lanes, 1 to 4, the instruction takes (docs/MACHINE.md, "Beats").
     pub fn beats(&self, lanes: u32) -> u64
         requires some_lanes { 0 < lanes }
         requires few_lanes { lanes ≤ 4 }
@@ -105,8 +145,8 @@ impl VecWork {
 }
 
 impl DmaWork {
-    ghost use Rattle.std.specs.Prelude.{◌≡◌};
-    ghost use Rattle.venice_isa.specs.Footprint.{cells_of, memory_of};
+    ghost use Rattle.std.specs.Prelude.{◌≡◌, ◌↔◌, IsTrue};
+    ghost use Rattle.venice_isa.specs.Footprint.{cells_of, memory_of, IsInCellsAndMemory};
     ghost use Rattle.venice_isa.specs.Beat.{beats_of_row, channel_group, transfer_beats};
 
     /// How many bytes a beat of a channel moves at the most.
@@ -138,14 +178,22 @@ impl DmaWork {
         }
     }
 
-    /// How many beats a row takes.
+    /// Whether every byte of the transfer lies in `cells` cells on the one side and in `memory` bytes of memory on the
+    /// other (docs/MACHINE.md, "Footprints"). A transfer with a count of 0 has no bytes, and so is in range. Constant time.
+    pub fn is_in_range(&self, cells: u32, memory: u32) -> bool
+        ensures { IsTrue result ↔ IsInCellsAndMemory self.now cells memory }
+    {
+        self.cells().lies_below(cells) && self.memory().lies_below(memory)
+    }
+
+    /// How many beats of a channel a row takes, 16 bytes in each but the last.
     pub fn row_beats(&self) -> u32
         ensures { result ≡ beats_of_row self.now.bytes channel_group }
     {
         self.bytes.div_ceil(Self::GROUP)
     }
 
-    /// How many beats the transfer takes.
+    /// How many beats of a channel the transfer takes (docs/MACHINE.md, "Transfers").
     pub fn beats(&self) -> u64
         ensures { result ≡ transfer_beats self.now }
     {
