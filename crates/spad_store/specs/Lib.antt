@@ -1,3 +1,4 @@
 pub mod Cells
 pub mod Footprint
 pub mod Queue
+pub mod Front
