@@ -1,4 +1,5 @@
 pub mod Cells
 pub mod Footprint
-pub mod Queue
 pub mod Sizes
+pub mod Queue
+pub mod Front

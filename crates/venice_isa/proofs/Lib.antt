@@ -10,3 +10,4 @@ pub mod Results
 pub mod Beats
 pub mod Transfers
 pub mod OneBeat
+pub mod Walks

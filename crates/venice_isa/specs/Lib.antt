@@ -10,3 +10,4 @@ pub mod Copy
 pub mod Beat
 pub mod Does
 pub mod Laws
+pub mod Walk

@@ -14,6 +14,7 @@ mod kind;
 pub mod laws;
 mod op;
 mod region;
+mod walk;
 mod work;
 
 pub use answer::{result_of, sets_flag};
@@ -21,4 +22,5 @@ pub use issue::Issue;
 pub use kind::VecKind;
 pub use op::VecOp;
 pub use region::Region;
+pub use walk::Walk;
 pub use work::{DmaWork, VecWork};

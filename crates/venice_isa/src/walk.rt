@@ -1,0 +1,50 @@
+//! Ways through the elements of a region, group by group and row by row.
+ghost use Rattle.std.specs.Prelude.{◌≡◌, ◌+◌, ◌*◌, ◌<◌, ◌^◌};
+
+use crate::region::Region;
+
+/// A way through a region in groups of elements, row by row: where the current row and its next
+/// group begin, and how many bytes lie between two rows and between two groups. It goes on by sums
+/// alone ("Beats" of docs/MACHINE.md).
+#[derive(Clone, Copy, Debug)]
+pub struct Walk {
+    pub row: u64,
+    pub next: u64,
+    pub step: u32,
+    pub group: u32,
+}
+
+impl Walk {
+    ghost use Rattle.venice_isa.specs.Walk.{IsWalk};
+
+    /// The way from the region's first element on, in groups of so many elements. A group has less
+    /// than 2^32 bytes.
+    pub fn begin(region: Region, group: u32) -> Walk
+        requires { group * region.size < 2 ^ 32 }
+        ensures { IsWalk region group 0 0 result }
+    {
+        Walk {
+            row: u64::from(region.place),
+            next: u64::from(region.place),
+            step: region.step,
+            group: group * region.size,
+        }
+    }
+
+    /// Goes on by a whole group.
+    pub fn go_on(&mut self)
+        requires { self.old.next < 2 ^ 63 }
+        ensures { self.new ≡ record self.old { next = self.old.next + self.old.group } }
+    {
+        self.next += u64::from(self.group);
+    }
+
+    /// Goes on to the beginning of the next row.
+    pub fn next_row(&mut self)
+        requires { self.old.row < 2 ^ 32 }
+        ensures { self.new ≡ record self.old { row = self.old.row + self.old.step; next = self.old.row + self.old.step } }
+    {
+        self.row += u64::from(self.step);
+        self.next = self.row;
+    }
+}
