@@ -1,6 +1,7 @@
 //! The memory of the vector machine.
 
 ghost use Rattle.std.specs.Prelude.{◌≡◌, ◌<◌, ◌≤◌, IfOk, length, replicate, slice_index, slice_set};
+ghost use Rattle.spad_store.specs.Sizes.{most_bytes};
 
 use std::alloc::{AllocError, Global};
 use std::marker::Model;
@@ -24,12 +25,9 @@ impl Model for MainMem {
 }
 
 impl MainMem {
-    /// The most bytes that a memory has.
-    pub const MOST: u32 = 134_217_728;
-
     /// A memory of so many bytes, all 0. Condition: `bytes` is at most 134,217,728. Err is want of memory.
     pub fn new(alloc: Global, bytes: u32) -> Result<MainMem, AllocError>
-        requires { bytes ≤ Self.MOST }
+        requires { bytes ≤ most_bytes }
         ensures { IfOk result (λ memory. memory ≡ replicate bytes 0) }
     {
         let bytes = vec![in alloc; 0; bytes as usize]?;
@@ -39,7 +37,7 @@ impl MainMem {
     /// The number of bytes, at most 134,217,728.
     pub fn len(&self) -> u32
         ensures count { result ≡ length self.now }
-        ensures few { result ≤ Self.MOST }
+        ensures few { result ≤ most_bytes }
     {
         self.bytes.len() as u32
     }

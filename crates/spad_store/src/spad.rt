@@ -2,6 +2,7 @@
 
 ghost use Rattle.std.specs.Prelude.{◌≡◌, ◌<◌, ◌≤◌, false, IfOk, length, replicate, slice_set};
 ghost use Rattle.spad_store.specs.Cells.{byte_at, flag_at};
+ghost use Rattle.spad_store.specs.Sizes.{most_cells};
 
 use std::alloc::{AllocError, Global};
 use std::marker::Model;
@@ -26,14 +27,11 @@ impl Model for Spad {
 }
 
 impl Spad {
-    /// The most cells that a scratchpad has.
-    pub const MOST: u32 = 1_048_576;
-
     /// A scratchpad of so many cells, whose bytes are 0 and whose flags are clear. Condition: `bytes`, the number of its
     /// cells, is from 1 to 1,048,576. Err is want of memory.
     pub fn new(alloc: Global, bytes: u32) -> Result<Spad, AllocError>
         requires some { 0 < bytes }
-        requires few { bytes ≤ Self.MOST }
+        requires few { bytes ≤ most_cells }
         ensures { IfOk result (λ spad. spad ≡ replicate bytes (0, false)) }
     {
         let cells = vec![in alloc; (0, false); bytes as usize]?;
@@ -44,7 +42,7 @@ impl Spad {
     pub fn len(&self) -> u32
         ensures count { result ≡ length self.now }
         ensures some { 0 < result }
-        ensures few { result ≤ Self.MOST }
+        ensures few { result ≤ most_cells }
     {
         self.cells.len() as u32
     }
