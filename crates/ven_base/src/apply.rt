@@ -1,4 +1,4 @@
-//! The operations on numbers of a type: the result on whole numbers, wrapped into the type (docs/MACHINE.md, "Operations").
+//! The operations on numbers of a type: the result on whole numbers, wrapped into the type (docs/LANGUAGE.md, "Operations").
 ghost use Rattle.std.specs.Prelude.{◌≡◌, ◌<◌};
 ghost use Rattle.ven_base.specs.Elem.{IsElement};
 ghost use Rattle.ven_base.specs.Operation.{applied1, applied2, amount_of};

@@ -1,4 +1,4 @@
-//! An array of the language: a type, a shape and values.
+//! An array of the language (docs/LANGUAGE.md, "Arrays"): a type, a shape and values.
 ghost use Rattle.std.specs.Prelude.{◌≡◌, ◌↔◌, All, IsTrue, IsSome, IfSome};
 ghost use Rattle.ven_base.specs.Elem.{IsElement};
 ghost use Rattle.ven_base.specs.Extent.{IsIndex};

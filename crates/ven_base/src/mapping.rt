@@ -1,4 +1,4 @@
-//! Index maps: which element of its operand an element of the result is.
+//! Index maps (docs/LANGUAGE.md, "Index maps"): which element of its operand an element of the result is.
 ghost use Rattle.std.specs.Prelude.{◌≡◌, ◌↔◌, ◌<◌, ◌≤◌, ◌*◌, pos, ◌+ℤ◌, IsTrue};
 ghost use Rattle.ven_base.specs.Extent.{element_limit};
 ghost use Rattle.ven_base.specs.Place.{IsMove, IsCut, place_within as place_inside, place_round as place_around};

@@ -1,4 +1,4 @@
-//! The operations and reductions of the array language (docs/MACHINE.md, "Operations").
+//! The operations and reductions of the array language (docs/LANGUAGE.md, "Operations").
 
 /// An operation on one number. What it computes of a whole number wraps into the type.
 #[derive(Clone, Copy, Debug, PartialEq, Eq, Hash)]

@@ -1,4 +1,4 @@
-//! Shapes of arrays.
+//! Shapes of arrays (docs/LANGUAGE.md, "Arrays").
 ghost use Rattle.std.specs.Prelude.{◌≡◌, ◌↔◌, IsSome, IfSome};
 ghost use Rattle.ven_base.specs.Extent.{IsExtent, elements_of};
 
