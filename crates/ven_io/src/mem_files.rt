@@ -3,9 +3,8 @@
 ghost use Rattle.std.specs.Prelude.{◌≡◌, ◌≤◌, ◌+◌, ◌↔◌, ℕ, List, [], take, Option, None, Some, IsSome, IfOk, OnOk, OnErr, IsErrOf, IsOkUnless, length};
 ghost use Rattle.std.specs.Option.{option_map};
 ghost use Rattle.std.specs.FinMap.{empty, get, insert};
-ghost use Rattle.ven_io.specs.Faults.{CountsFaults, one_more};
 ghost use Rattle.ven_io.specs.Files.{Shows, Loads, Saves, OthersStay};
-ghost use Rattle.ven_io.specs.Numbers.{FailsNext, next};
+ghost use Rattle.ven_io.specs.Numbers.{FailsNext, CountsCall};
 
 use crate::{Files, LoadFault, OutFault};
 use std::alloc::{AllocError, Global};
@@ -98,11 +97,9 @@ impl Files for MemFiles {
         ensures loaded { IfOk result (λ bytes. Loads (Some self.old.holds) name.now most bytes.items) }
         ensures missing { IsErrOf result LoadFault.Missing ↔ Shows (Some self.old.holds) name.now None }
         ensures held { self.new.holds ≡ self.old.holds }
-        ensures loads { CountsFaults self.old.failed_loads self.new.failed_loads (IsErrOf result LoadFault.Failed) }
-        ensures saves { self.new.failed_saves ≡ self.old.failed_saves }
-        ensures one { IsErrOf result LoadFault.Failed → self.new.failed_loads ≡ one_more self.old.failed_loads }
         ensures fails { IsErrOf result LoadFault.Failed ↔ (IsSome (get self.old.holds name.now) × FailsNext self.old.numbers) }
-        ensures numbered { self.new.numbers ≡ next self.old.numbers }
+        ensures call { CountsCall self.old.numbers self.new.numbers self.old.failed_loads self.new.failed_loads (IsErrOf result LoadFault.Failed) }
+        ensures saves { self.new.failed_saves ≡ self.old.failed_saves }
     {
         self.calls = self.calls.saturating_add(1);
         let Some(bytes) = self.get(name) else {
@@ -121,12 +118,10 @@ impl Files for MemFiles {
         ensures failed { IsErrOf result OutFault.Failed → self.new.holds ≡ insert self.old.holds name.now [] }
         ensures others { IsErrOf result OutFault.Failed → OthersStay (Some self.old.holds) (Some self.new.holds) name.now }
         ensures memory { IsErrOf result OutFault.Memory → self.new.holds ≡ self.old.holds }
-        ensures saves { CountsFaults self.old.failed_saves self.new.failed_saves (IsErrOf result OutFault.Failed) }
-        ensures loads { self.new.failed_loads ≡ self.old.failed_loads }
-        ensures one { IsErrOf result OutFault.Failed → self.new.failed_saves ≡ one_more self.old.failed_saves }
         ensures fails { IsErrOf result OutFault.Failed → FailsNext self.old.numbers }
         ensures passes { OnOk result (¬ FailsNext self.old.numbers) }
-        ensures numbered { self.new.numbers ≡ next self.old.numbers }
+        ensures call { CountsCall self.old.numbers self.new.numbers self.old.failed_saves self.new.failed_saves (IsErrOf result OutFault.Failed) }
+        ensures loads { self.new.failed_loads ≡ self.old.failed_loads }
     {
         self.calls = self.calls.saturating_add(1);
         let fails = self.fails.contains(&self.calls);

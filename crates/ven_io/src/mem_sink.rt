@@ -1,9 +1,8 @@
 //! A sink in memory.
 
 ghost use Rattle.std.specs.Prelude.{◌≡◌, ◌/◌, ◌++◌, [], take, length, Some, OnOk, IsErrOf};
-ghost use Rattle.ven_io.specs.Faults.{CountsFaults, one_more};
 ghost use Rattle.ven_io.specs.Sink.{TakesPart};
-ghost use Rattle.ven_io.specs.Numbers.{FailsNext, next};
+ghost use Rattle.ven_io.specs.Numbers.{FailsNext, CountsCall};
 
 use crate::{OutFault, Sink};
 use std::alloc::Global;
@@ -64,11 +63,9 @@ impl Sink for MemSink {
         ensures half { IsErrOf result OutFault.Failed → self.new.bytes ≡ self.old.bytes ++ take (length bytes.now / 2) bytes.now }
         ensures part { IsErrOf result OutFault.Failed → TakesPart (Some self.old.bytes) (Some self.new.bytes) bytes.now }
         ensures memory { IsErrOf result OutFault.Memory → self.new.bytes ≡ self.old.bytes }
-        ensures counted { CountsFaults self.old.failed_puts self.new.failed_puts (IsErrOf result OutFault.Failed) }
-        ensures one { IsErrOf result OutFault.Failed → self.new.failed_puts ≡ one_more self.old.failed_puts }
         ensures fails { IsErrOf result OutFault.Failed → FailsNext self.old.numbers }
         ensures passes { OnOk result (¬ FailsNext self.old.numbers) }
-        ensures numbered { self.new.numbers ≡ next self.old.numbers }
+        ensures call { CountsCall self.old.numbers self.new.numbers self.old.failed_puts self.new.failed_puts (IsErrOf result OutFault.Failed) }
     {
         self.puts = self.puts.saturating_add(1);
         let fails = self.fails.contains(&self.puts);
