@@ -7,7 +7,7 @@ ghost use Rattle.spad_store.specs.Queue.{IsQueue};
 
 use crate::{MainMem, Spad};
 
-/// A unit of the machine: a queue of works, of which the first is done beat by beat (docs/MACHINE.md, "Beats" and "Footprints").
+/// A unit of the machine: a queue of works, of which the first is done beat by beat (docs/MACHINE.md, "Units").
 ///
 /// What a work is, which bytes it reads and writes and what its beats are is for each unit to say.
 /// The laws hold of every unit: a beat changes only bytes of the first work's write footprint, what
