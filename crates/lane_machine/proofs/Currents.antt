@@ -1,204 +1,139 @@
 -- How a work comes on.
-use Rattle.std.proofs.Common.{◌≡◌, ℕ, ◌+◌, ◌-◌, ◌*◌, ◌/◌, ◌%◌, ◌^◌, ◌<◌, ◌≤◌, inl, inr, ap, sym, ◌∙◌, refl, arith, max, leb, false, ℤ, pos}
+use Rattle.std.proofs.Common.{◌≡◌, ℕ, ◌+◌, ◌-◌, ◌*◌, ◌^◌, ◌<◌, ◌≤◌, inl, inr, sym, refl, arith, lit≤, max, leb, false, ℤ, pos}
 use Rattle.std.proofs.lemmas.Int.{ints}
-use Rattle.std.proofs.lemmas.Bool.{cond-true, cond-false, le-leb, lt-leb}
-use Rattle.std.proofs.lemmas.Nat.{div-add-mod', mod_below, div-mul-add, mod-mul-add}
-use Rattle.std.proofs.Math.Nat.{mul-le-mul_left, mul-le-mul_right, div-le_self}
+use Rattle.std.proofs.lemmas.Bool.{cases_Bool, cond-true, cond-false, le-leb, lt-leb}
+use Rattle.std.proofs.Math.Nat.{div-le_self, mul-le-mul_right}
+use Rattle.ven_base.specs.declared.elem.Elem.{Elem}
+use Rattle.ven_base.specs.declared.elem.Elem.TheVariants.{U8, I8, U16, I16, U32, I32}
 use Rattle.ven_base.specs.Elem.{size_of}
+use Rattle.ven_base.specs.Wrap.{wrapped}
 use Rattle.venice_isa.specs.declared.kind.VecKind.{VecKind}
 use Rattle.venice_isa.specs.declared.work.VecWork.{VecWork}
-use Rattle.venice_isa.specs.declared.region.Region.{Region}
 use Rattle.venice_isa.specs.Whole.{HasCounts}
-use Rattle.venice_isa.specs.Beat.{lane_group, beats_of_row, group_at, vector_beats}
-use Rattle.venice_isa.proofs.Counts.{some_beats, next_beat}
-use Rattle.venice_isa.proofs.Beats.{some_group}
-use Rattle.lane_machine.specs.declared.walk.Walk.{Walk}
+use Rattle.venice_isa.specs.Region.{place_in}
+use Rattle.venice_isa.specs.Footprint.{source_a, source_b, destination}
+use Rattle.venice_isa.specs.Beat.{lane_group, beats_of_row}
+use Rattle.venice_isa.proofs.Walks.{walk_on, walk_next_row, walk_row, walk_fits, come_fits, come_on, come_to_row, come_to_end}
+use Rattle.venice_isa.proofs.Wholes.{size_positive}
 use Rattle.lane_machine.specs.declared.current.Current.{Current}
-use Rattle.lane_machine.specs.Walk.{IsWalk}
-use Rattle.lane_machine.specs.Current.{IsAt, IsBounded, IsNext, group_of}
-
--- ---- walks
-
-pub walk_after : (region : Region) (row first count : ℕ) (walk : Walk) → IsWalk region row first walk → IsWalk region row (first + count) (record walk { behind = walk.behind + count * walk.size })
-walk_after region row first count walk is =
-    let more : count * walk.size ≡ count * region.size = ap (λ size. count * size) is.size_is in
-    record {
-      row_is = is.row_is;
-      behind_is = omega (arith, more, is.behind_is);
-      step_is = is.step_is;
-      size_is = is.size_is;
-      place_fits = is.place_fits;
-      step_fits = is.step_fits;
-    }
-
-pub walk_next_row : (region : Region) (row first : ℕ) (walk : Walk) → IsWalk region row first walk → IsWalk region (row + 1) 0 (record walk { row = walk.row + walk.step; behind = 0 })
-walk_next_row region row first walk is = record {
-  row_is = omega (arith, is.row_is, is.step_is);
-  behind_is = omega arith;
-  step_is = is.step_is;
-  size_is = is.size_is;
-  place_fits = is.place_fits;
-  step_fits = is.step_fits;
-}
-
--- the next row begins at a number of 64 bits
-pub next_row_fits : (region : Region) (row first : ℕ) (walk : Walk) → IsWalk region row first walk → row + 2 < 2 ^ 32 → walk.row + walk.step < 2 ^ 64
-next_row_fits region row first walk is small =
-    let most = 2 ^ 32 - 1 in
-    let short : region.step ≤ most = omega (arith, is.step_fits) in
-    let steps : (row + 1) * region.step ≤ (row + 1) * most = mul-le-mul_left (row + 1) short in
-    let few : row + 1 ≤ 2 ^ 32 - 2 = omega arith in
-    let rows : (row + 1) * most ≤ (2 ^ 32 - 2) * most = mul-le-mul_right most few in
-    omega (arith, steps, rows, is.row_is, is.step_is, is.place_fits)
-
--- ---- groups
+use Rattle.lane_machine.specs.Current.{IsAt, IsBounded, IsNext, CanGo, CanGoToNextRow, group_of, gone_on, turned, has_number_for_b}
+use Rattle.lane_machine.specs.Group.{IsInside}
+use Rattle.lane_machine.proofs.Operands.{operand_on, operand_turned, operand_can_go, operand_can_turn}
+use Rattle.lane_machine.proofs.Places.{a_end, b_end, dst_end, sum_end}
 
 pub few_in_group : (kind : VecKind) (lanes : ℕ) → lanes ≤ 4 → lane_group kind lanes ≤ 16
 few_in_group kind lanes few = omega (arith, div-le_self (4 * lanes) (max (size_of kind.elem) (size_of kind.from)))
 
-module _ (lanes : ℕ) (work : VecWork) (some_lanes : 0 < lanes) (counts : HasCounts work) where
-  -- a work begins at its first element
-  pub begin_row : 0 ≡ (group_at work.vl (lane_group work.kind lanes) 0).row
-  begin_row =
-      let beats = beats_of_row work.vl (lane_group work.kind lanes) in
-      let some = some_beats work.vl (lane_group work.kind lanes) counts.elements (some_group work lanes some_lanes) in
-      let start : 0 ≡ 0 * beats + 0 = omega arith in
-      sym (ap (λ n. n / beats) start ∙ div-mul-add 0 beats 0 some)
+pub size_at_most : (elem : Elem) → size_of elem ≤ 4
+size_at_most U8 = lit≤ tt
+size_at_most I8 = lit≤ tt
+size_at_most U16 = lit≤ tt
+size_at_most I16 = lit≤ tt
+size_at_most U32 = lit≤ tt
+size_at_most I32 = lit≤ tt
 
-  pub begin_first : 0 ≡ (group_at work.vl (lane_group work.kind lanes) 0).first
-  begin_first =
-      let beats = beats_of_row work.vl (lane_group work.kind lanes) in
-      let some = some_beats work.vl (lane_group work.kind lanes) counts.elements (some_group work lanes some_lanes) in
-      let start : 0 ≡ 0 * beats + 0 = omega arith in
-      let place : 0 % beats ≡ 0 = ap (λ n. n % beats) start ∙ mod-mul-add 0 beats 0 some in
-      sym (ap (λ n. n * lane_group work.kind lanes) place ∙ (omega arith))
+-- a group of the lanes has few bytes
+pub few_bytes : (group : ℕ) (elem : Elem) → group ≤ 16 → group * size_of elem < 2 ^ 32
+few_bytes group elem few =
+    let bytes : group * size_of elem ≤ 16 * size_of elem = mul-le-mul_right (size_of elem) few in
+    omega (arith, bytes, size_at_most elem)
 
-  -- a beat whose row is one of the work's is one of the work's
-  beat_below : (n : ℕ) → (group_at work.vl (lane_group work.kind lanes) n).row < work.rows → n < vector_beats work lanes
-  beat_below n in_rows =
-      let beats = beats_of_row work.vl (lane_group work.kind lanes) in
-      let some = some_beats work.vl (lane_group work.kind lanes) counts.elements (some_group work lanes some_lanes) in
-      let split : n / beats * beats + n % beats ≡ n = div-add-mod' n beats in
-      let rest : n % beats < beats = mod_below n beats some in
-      let rows : (n / beats + 1) * beats ≤ work.rows * beats = mul-le-mul_right beats (omega arith) in
-      omega arith
+module _ (work : VecWork) (counts : HasCounts work) (current : Current) (at : IsAt work current) where
+  -- ---- within numbers of 32 and of 64 bits
 
-  -- a beat past the last row is none
-  beat_past : (n : ℕ) → work.rows ≤ (group_at work.vl (lane_group work.kind lanes) n).row → vector_beats work lanes ≤ n
-  beat_past n past =
-      let beats = beats_of_row work.vl (lane_group work.kind lanes) in
-      let split : n / beats * beats + n % beats ≡ n = div-add-mod' n beats in
-      let rows : work.rows * beats ≤ n / beats * beats = mul-le-mul_right beats past in
-      omega arith
+  module _ (inside : IsInside work (2 ^ 32)) (vl_fits : work.vl < 2 ^ 32) (rows_fit : work.rows < 2 ^ 32) where
+    a_small : work.kind.a_scalar ≡ false → place_in (source_a work) current.row 0 < 2 ^ 32
+    a_small vector = omega (arith, a_end work (2 ^ 32) inside current.row 0 at.placed.in_rows counts.elements vector, size_positive work.kind.from)
 
-  module _ (current : Current) (at : IsAt lanes work current) (sum : ℤ) where
-    count_is : group_of work current ≡ (group_at work.vl (lane_group work.kind lanes) current.done).count
-    count_is = omega (arith, at.group_is, at.first_is)
+    b_small : has_number_for_b work ≡ false → place_in (source_b work) current.row 0 < 2 ^ 32
+    b_small elements = omega (arith, b_end work (2 ^ 32) inside current.row 0 at.placed.in_rows counts.elements elements, size_positive work.kind.elem)
 
-    unfoldable pub later_current : Current
-    later_current = record current {
-      first = current.first + group_of work current;
-      done = current.done + 1;
-      sum = sum;
-      a = record current.a { behind = current.a.behind + group_of work current * current.a.size };
-      b = record current.b { behind = current.b.behind + group_of work current * current.b.size };
-      dst = record current.dst { behind = current.dst.behind + group_of work current * current.dst.size };
-    }
-
-    pub later : group_of work current < work.vl - current.first → IsBounded (current.first + group_of work current) sum → IsNext lanes work current sum later_current
-    unfolding later_current
-    later goes_on bounded =
-        let items = work.vl in
-        let size = lane_group work.kind lanes in
-        let next = group_at items size (current.done + 1) in
-        let before : current.first + group_of work current < items = omega arith in
-        let not_last : leb items (current.first + group_of work current) ≡ false = lt-leb items (current.first + group_of work current) before in
-        let placed = at.placed in
-        let goes : (next.row ≡ current.row) × (next.first ≡ current.first + group_of work current) =
-        elim (next_beat items size counts.elements (some_group work lanes some_lanes) current.done) [
-          | inl on ↦ (on.0 ∙ sym at.row_is, omega (arith, on.1, count_is, at.first_is))
-          | inr ends ↦ absurd (omega (arith, ends.2, count_is, at.first_is))
-        ] in
-        let in_rows : next.row < work.rows = omega (arith, goes.0, placed.in_rows) in
-        record {
-          at = record {
-            lanes_are = at.lanes_are;
-            group_is = at.group_is;
-            more = beat_below (current.done + 1) in_rows;
-            row_is = sym goes.0;
-            first_is = sym goes.1;
-            placed = record {
-              in_rows = placed.in_rows;
-              in_row = before;
-              some = placed.some;
-              few = placed.few;
-              a_walk = walk_after _ current.row current.first (group_of work current) current.a placed.a_walk;
-              b_walk = walk_after _ current.row current.first (group_of work current) current.b placed.b_walk;
-              dst_walk = walk_after _ current.row current.first (group_of work current) current.dst placed.dst_walk;
-              a_is = placed.a_is;
-              b_is = placed.b_is;
-            };
-            bounded = bounded;
-          };
-          done_is = refl;
-          sum_is = sym (cond-false (leb items (current.first + group_of work current)) (pos 0) sum not_last);
-        }
-
-    unfoldable pub next_row_current : Current
-    next_row_current = record current {
-      row = current.row + 1;
-      first = 0;
-      done = current.done + 1;
-      sum = pos 0;
-      a = record current.a { row = current.a.row + current.a.step; behind = 0 };
-      b = record current.b { row = current.b.row + current.b.step; behind = 0 };
-      dst = record current.dst { row = current.dst.row + current.dst.step; behind = 0 };
-    }
-
-    -- where a row is done, the next beat begins the next row
-    row_ends : work.vl - current.first ≤ group_of work current → ((group_at work.vl (lane_group work.kind lanes) (current.done + 1)).row ≡ current.row + 1) × ((group_at work.vl (lane_group work.kind lanes) (current.done + 1)).first ≡ 0)
-    row_ends ended =
-        elim (next_beat work.vl (lane_group work.kind lanes) counts.elements (some_group work lanes some_lanes) current.done) [
-          | inl on ↦ absurd (omega (arith, on.2, count_is, at.first_is))
-          | inr ends ↦ (omega (arith, ends.0, at.row_is), ends.1)
+    dst_small : place_in (destination work) current.row 0 < 2 ^ 32
+    dst_small =
+        elim (cases_Bool work.kind.acc) [
+          | inl with_sum ↦ omega (arith, sum_end work (2 ^ 32) inside current.row 0 at.placed.in_rows counts.elements with_sum, size_positive work.kind.elem)
+          | inr no_sum ↦ omega (arith, dst_end work (2 ^ 32) inside current.row 0 at.placed.in_rows counts.elements no_sum, size_positive work.kind.elem)
         ]
 
-    pub next_row : work.vl - current.first ≤ group_of work current → 1 < work.rows - current.row → IsNext lanes work current sum next_row_current
-    unfolding next_row_current
-    next_row ended more_rows =
-        let items = work.vl in
-        let size = lane_group work.kind lanes in
-        let next = group_at items size (current.done + 1) in
+    done_fits : current.done + 1 < 2 ^ 64
+    done_fits = come_fits work.rows work.vl current.group counts.rows counts.elements at.placed.some current.done current.row current.first at.come rows_fit vl_fits
+
+    pub can_go : group_of work current < work.vl - current.first → CanGo current
+    can_go goes_on =
         let placed = at.placed in
-        let goes = row_ends ended in
-        let in_rows : next.row < work.rows = omega (arith, goes.0) in
-        let all : items ≤ current.first + group_of work current = omega arith in
+        let first_fits : current.first < 2 ^ 32 = omega (arith, placed.in_row) in
         record {
-          at = record {
-            lanes_are = at.lanes_are;
-            group_is = at.group_is;
-            more = beat_below (current.done + 1) in_rows;
-            row_is = sym goes.0;
-            first_is = sym goes.1;
-            placed = record {
-              in_rows = omega arith;
-              in_row = counts.elements;
-              some = placed.some;
-              few = placed.few;
-              a_walk = walk_next_row _ current.row current.first current.a placed.a_walk;
-              b_walk = walk_next_row _ current.row current.first current.b placed.b_walk;
-              dst_walk = walk_next_row _ current.row current.first current.dst placed.dst_walk;
-              a_is = placed.a_is;
-              b_is = placed.b_is;
-            };
-            bounded = record { from_least = omega (arith, ints); to_greatest = omega (arith, ints) };
-          };
-          done_is = refl;
-          sum_is = sym (cond-true (leb items (current.first + group_of work current)) (pos 0) sum (le-leb items (current.first + group_of work current) all));
+          a = operand_can_go (wrapped work.kind.from (pos work.a)) work.kind.a_scalar (source_a work) current.group current.row current.first current.a placed.a_is a_small (size_at_most work.kind.from) first_fits;
+          b = operand_can_go (wrapped work.kind.elem (pos work.b)) (has_number_for_b work) (source_b work) current.group current.row current.first current.b placed.b_is b_small (size_at_most work.kind.elem) first_fits;
+          dst = walk_fits (destination work) current.group current.row current.first current.dst placed.dst_is dst_small (size_at_most work.kind.elem) first_fits;
+          first = omega arith;
+          done = done_fits;
         }
 
-    pub last : work.vl - current.first ≤ group_of work current → work.rows - current.row ≤ 1 → current.done + 1 ≡ vector_beats work lanes
-    last ended no_more =
-        let goes = row_ends ended in
-        let past = beat_past (current.done + 1) (omega (arith, goes.0)) in
-        omega (arith, past, at.more)
+    pub can_turn : CanGoToNextRow current
+    can_turn =
+        let placed = at.placed in
+        record {
+          a = operand_can_turn (wrapped work.kind.from (pos work.a)) work.kind.a_scalar (source_a work) current.group current.row current.first current.a placed.a_is a_small;
+          b = operand_can_turn (wrapped work.kind.elem (pos work.b)) (has_number_for_b work) (source_b work) current.group current.row current.first current.b placed.b_is b_small;
+          dst = omega (arith, dst_small, walk_row (destination work) current.group current.row current.first current.dst placed.dst_is);
+          row = omega (arith, placed.in_rows);
+          done = done_fits;
+        }
+
+  -- ---- one beat on
+
+  pub goes_on : (sum : ℤ) → group_of work current < work.vl - current.first → IsBounded (current.first + group_of work current) sum → IsNext work current sum (gone_on current sum)
+  goes_on sum more bounded =
+      let placed = at.placed in
+      let whole : group_of work current ≡ current.group = omega arith in
+      let more_than_group : current.group < work.vl - current.first = omega arith in
+      let before : current.first + group_of work current < work.vl = omega arith in
+      let not_last : leb work.vl (current.first + group_of work current) ≡ false = lt-leb work.vl (current.first + group_of work current) before in
+      record {
+        at = record {
+          come = come_on work.rows work.vl current.group counts.rows counts.elements placed.some current.done current.row current.first at.come more_than_group;
+          placed = record {
+            in_rows = placed.in_rows;
+            in_row = omega arith;
+            some = placed.some;
+            few = placed.few;
+            a_is = operand_on (wrapped work.kind.from (pos work.a)) work.kind.a_scalar (source_a work) current.group current.row current.first current.a placed.a_is;
+            b_is = operand_on (wrapped work.kind.elem (pos work.b)) (has_number_for_b work) (source_b work) current.group current.row current.first current.b placed.b_is;
+            dst_is = walk_on (destination work) current.group current.row current.first current.dst placed.dst_is;
+          };
+          bounded = rw (← whole) bounded;
+        };
+        group_is = refl;
+        done_is = refl;
+        sum_is = sym (cond-false (leb work.vl (current.first + group_of work current)) (pos 0) sum not_last);
+      }
+
+  pub turns : (sum : ℤ) → work.vl - current.first ≤ group_of work current → 1 < work.rows - current.row → IsNext work current sum (turned current)
+  turns sum ended more_rows =
+      let placed = at.placed in
+      let no_more : work.vl - current.first ≤ current.group = omega arith in
+      let all : work.vl ≤ current.first + group_of work current = omega arith in
+      record {
+        at = record {
+          come = come_to_row work.rows work.vl current.group counts.rows counts.elements placed.some current.done current.row current.first at.come no_more more_rows;
+          placed = record {
+            in_rows = omega arith;
+            in_row = counts.elements;
+            some = placed.some;
+            few = placed.few;
+            a_is = operand_turned (wrapped work.kind.from (pos work.a)) work.kind.a_scalar (source_a work) current.group current.row current.first current.a placed.a_is;
+            b_is = operand_turned (wrapped work.kind.elem (pos work.b)) (has_number_for_b work) (source_b work) current.group current.row current.first current.b placed.b_is;
+            dst_is = walk_next_row (destination work) current.group current.row current.first current.dst placed.dst_is;
+          };
+          bounded = record { from_least = omega (arith, ints); to_greatest = omega (arith, ints) };
+        };
+        group_is = refl;
+        done_is = refl;
+        sum_is = sym (cond-true (leb work.vl (current.first + group_of work current)) (pos 0) sum (le-leb work.vl (current.first + group_of work current) all));
+      }
+
+  pub ends : work.vl - current.first ≤ group_of work current → work.rows - current.row ≤ 1 → current.done + 1 ≡ work.rows * beats_of_row work.vl current.group
+  ends ended no_more =
+      let no_more_items : work.vl - current.first ≤ current.group = omega arith in
+      come_to_end work.rows work.vl current.group counts.rows counts.elements at.placed.some current.done current.row current.first at.come no_more_items no_more

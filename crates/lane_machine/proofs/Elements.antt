@@ -1,19 +1,15 @@
 -- Elements read and written byte by byte.
-use Rattle.std.proofs.Common.{◌≡◌, ℕ, zero, suc, ◌+◌, ◌-◌, ◌*◌, ◌/◌, ◌%◌, ◌<◌, ◌≤◌, ap, sym, ◌∙◌, refl, arith, List, [], ◌∷◌, ◌++◌, length, get_or, take, drop, map, set, Bool, ℤ, pos}
+use Rattle.std.proofs.Common.{◌≡◌, ℕ, zero, suc, ◌+◌, ◌*◌, ◌%◌, ◌<◌, ◌≤◌, ap, sym, ◌∙◌, refl, arith, List, [], ◌∷◌, ◌++◌, length, get_or, take, drop, set, pos}
 use Rattle.std.specs.Prelude.{◌<ℤ◌, ◌≤ℤ◌, ◌+ℤ◌, ◌-ℤ◌}
 use Rattle.std.specs.Int.{int_rem_euclid}
 use Rattle.std.proofs.lemmas.Nat.{mod-mul-add}
-use Rattle.std.proofs.lemmas.List.{append_assoc, length-append, length-take-le, take_at, drop_at, drop-drop, drop_more, set_split, length-set, length-map}
+use Rattle.std.proofs.lemmas.List.{append_assoc, length-append, length-take-le, take_at, drop_at, drop-drop, drop_more, set_split, length-set}
+use Rattle.std.proofs.Math.Nat.{mul-le-mul_right}
 use Rattle.ven_base.specs.declared.elem.Elem.{Elem}
-use Rattle.ven_base.specs.Elem.{size_of, modulus_of, least_of}
-use Rattle.ven_base.specs.Operation.{bits_of}
+use Rattle.ven_base.specs.Elem.{modulus_of, least_of}
 use Rattle.ven_base.specs.Wrap.{wrapped}
 use Rattle.ven_base.proofs.Wrapped.{wrap_below, wrap_above, IsWrapped-is}
-use Rattle.ven_base.specs.Cell.{Cell}
 use Rattle.venice_isa.specs.Cell.{part, overwritten}
-use Rattle.venice_isa.specs.Element.{low_bytes, spelled}
-use Rattle.venice_isa.proofs.Overwrites.{overwritten_nothing}
-use Rattle.venice_isa.proofs.Spellings.{low_bytes_length}
 
 -- ---- numbers
 
@@ -85,41 +81,30 @@ overwritten_by_itself items place xs count inside =
 
 -- ---- a number written byte by byte
 
--- when the bytes that are left are written too, the number is
-pub record IsWriting (elem : Elem) (n : ℤ) (flag : Bool) (before cells : List Cell) (place k bits : ℕ) : Type 0 where
-  pub same_length : length cells ≡ length before
-  pub rest : overwritten cells (place + k) (map (λ byte. (byte, flag)) (low_bytes (size_of elem - k) bits)) ≡ overwritten before place (spelled elem n flag)
+pub one_put : {A : Type 0} (items : List A) (place : ℕ) (x : A) → place < length items → set items place x ≡ overwritten items place (x ∷ [])
+one_put items place x inside =
+    let next : suc place ≡ place + 1 = omega arith in
+    set_split items place x inside ∙ ap (λ n. take place items ++ (x ∷ drop n items)) next
 
-pub begins_writing : (elem : Elem) (n : ℤ) (flag : Bool) (before : List Cell) (place bits : ℕ) → bits ≡ bits_of elem n → IsWriting elem n flag before before place 0 bits
-begins_writing elem n flag before place bits is =
-    let here : place + 0 ≡ place = omega arith in
-    let all : size_of elem - 0 ≡ size_of elem = omega arith in
-    record {
-      same_length = refl;
-      rest =
-          ap (λ p. overwritten before p (map (λ byte. (byte, flag)) (low_bytes (size_of elem - 0) bits))) here
-          ∙ ap (λ count. overwritten before place (map (λ byte. (byte, flag)) (low_bytes count bits))) all
-          ∙ ap (λ spelt. overwritten before place (map (λ byte. (byte, flag)) (low_bytes (size_of elem) spelt))) is;
-    }
+pub two_put : {A : Type 0} (items : List A) (place : ℕ) (x y : A) → place + 2 ≤ length items → set (set items place x) (place + 1) y ≡ overwritten items place (x ∷ y ∷ [])
+two_put items place x y inside =
+    one_put (set items place x) (place + 1) y (omega (arith, length-set items place x))
+    ∙ sym (overwritten_more items place x (y ∷ []) (omega arith))
 
-pub goes_on_writing : (elem : Elem) (n : ℤ) (flag : Bool) (before cells : List Cell) (place k bits : ℕ) → k < size_of elem → place + size_of elem ≤ length before → IsWriting elem n flag before cells place k bits → IsWriting elem n flag before (set cells (place + k) (bits % 256, flag)) place (k + 1) (bits / 256)
-goes_on_writing elem n flag before cells place k bits more inside writing =
-    let spell : ℕ → ℕ → List Cell = λ count bits. map (λ byte. (byte, flag)) (low_bytes count bits) in
-    let rest = spell (size_of elem - (k + 1)) (bits / 256) in
-    let one_more : size_of elem - k ≡ suc (size_of elem - (k + 1)) = omega arith in
-    let next : (place + k) + 1 ≡ place + (k + 1) = omega arith in
-    let here : place + k < length cells = omega (arith, writing.same_length) in
-    record {
-      same_length = length-set cells (place + k) (bits % 256, flag) ∙ writing.same_length;
-      rest =
-          ap (λ p. overwritten (set cells (place + k) (bits % 256, flag)) p rest) (sym next)
-          ∙ sym (overwritten_more cells (place + k) (bits % 256, flag) rest here)
-          ∙ ap (λ count. overwritten cells (place + k) (spell count bits)) (sym one_more)
-          ∙ writing.rest;
-    }
+pub four_put : {A : Type 0} (items : List A) (place : ℕ) (x y z w : A) → place + 4 ≤ length items → set (set (set (set items place x) (place + 1) y) (place + 2) z) (place + 3) w ≡ overwritten items place (x ∷ y ∷ z ∷ w ∷ [])
+four_put items place x y z w inside =
+    let third : place + 2 ≡ (place + 1) + 1 = omega arith in
+    let fourth : place + 3 ≡ (place + 2) + 1 = omega arith in
+    let two = set (set items place x) (place + 1) y in
+    let long : length two ≡ length items = length-set (set items place x) (place + 1) y ∙ length-set items place x in
+    ap (λ p. set (set two (place + 2) z) p w) fourth
+    ∙ two_put two (place + 2) z w (omega (arith, long))
+    ∙ ap (λ p. overwritten two p (z ∷ w ∷ [])) third
+    ∙ sym (overwritten_more (set items place x) (place + 1) y (z ∷ w ∷ []) (omega (arith, length-set items place x)))
+    ∙ sym (overwritten_more items place x (y ∷ z ∷ w ∷ []) (omega arith))
 
-pub ends_writing : (elem : Elem) (n : ℤ) (flag : Bool) (before cells : List Cell) (place k bits : ℕ) → size_of elem ≤ k → IsWriting elem n flag before cells place k bits → cells ≡ overwritten before place (spelled elem n flag)
-ends_writing elem n flag before cells place k bits all writing =
-    let none : size_of elem - k ≡ 0 = omega arith in
-    let no_byte : length (map (λ (byte : ℕ). (byte, flag)) (low_bytes (size_of elem - k) bits)) ≡ 0 = length-map _ _ ∙ low_bytes_length (size_of elem - k) bits ∙ none in
-    sym (overwritten_nothing cells (place + k) (map (λ byte. (byte, flag)) (low_bytes (size_of elem - k) bits)) no_byte) ∙ writing.rest
+-- an element of a group ends in the cells
+pub element_in : (place count size end i : ℕ) → place + count * size ≤ end → i < count → (place + i * size) + size ≤ end
+element_in place count size end i inside below =
+    let some : (i + 1) * size ≤ count * size = mul-le-mul_right size (omega arith) in
+    omega arith

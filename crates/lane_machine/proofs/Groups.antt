@@ -1,11 +1,11 @@
 -- What the next elements of a row get, one after another.
-use Rattle.std.proofs.Common.{◌≡◌, ℕ, zero, suc, ◌+◌, ◌^◌, ◌<◌, ◌≤◌, inl, inr, ap, sym, ◌∙◌, refl, subst, arith, List, [], ◌++◌, length, set, Bool, true, false, ℤ, pos, negsuc, neg_ℤ, ◌+ℤ◌, Some, w64}
+use Rattle.std.proofs.Common.{◌≡◌, ℕ, zero, suc, ◌+◌, ◌^◌, ◌<◌, ◌≤◌, inl, inr, ap, sym, ◌∙◌, refl, subst, arith, List, [], ◌++◌, length, true, false, ℤ, pos, negsuc, neg_ℤ, ◌+ℤ◌, w64, get_or, to_z, of_z}
 use mir.Val.{SFits}
-use Rattle.std.specs.Prelude.{slice_get, ◌≤ℤ◌}
-use Rattle.std.proofs.lemmas.Int.{ints}
-use Rattle.std.proofs.lemmas.Bool.{cases_eq, cases_Bool, cond-true, cond-false, false≢true}
-use Rattle.std.proofs.lemmas.List.{length-append, append_assoc, append-nil, length-set, get_or-set_same, get_or-set_other}
-use Rattle.std.proofs.lemmas.Option.{slice_get-get_or}
+use Rattle.std.specs.Prelude.{◌≤ℤ◌}
+use Rattle.std.specs.Int.{w128}
+use Rattle.std.proofs.lemmas.Int.{ints, to_z-of_z}
+use Rattle.std.proofs.lemmas.Bool.{cases_Bool, cond-true, cond-false}
+use Rattle.std.proofs.lemmas.List.{length-append, append_assoc, append-nil}
 use Rattle.ven_base.specs.declared.elem.Elem.{Elem}
 use Rattle.ven_base.specs.declared.elem.Elem.TheVariants.{U8, I8, U16, I16, U32, I32}
 use Rattle.ven_base.specs.Elem.{size_of, IsElement}
@@ -15,21 +15,17 @@ use Rattle.venice_isa.specs.Cell.{part, overwritten}
 use Rattle.venice_isa.specs.Region.{place_in, LiesBelow}
 use Rattle.venice_isa.specs.Element.{spelled}
 use Rattle.venice_isa.specs.Footprint.{destination}
-use Rattle.venice_isa.specs.declared.op.VecOp.{VecOp}
-use Rattle.venice_isa.specs.declared.op.VecOp.TheVariants.{Cmov}
-use Rattle.venice_isa.specs.Mode.{uses_b, is_conditional, allows_mode}
 use Rattle.venice_isa.specs.Whole.{number_of_a, number_of_b, result_at, is_left_alone, new_element, flag_for, sum_of_results}
 use Rattle.venice_isa.specs.Beat.{new_elements}
 use Rattle.venice_isa.proofs.Overwrites.{overwritten_length, overwritten_nothing}
 use Rattle.venice_isa.proofs.OneBeat.{group_end}
-use Rattle.venice_isa.proofs.Wholes.{same_slot}
 use Rattle.venice_isa.proofs.Wholes.{size_positive, columns_without_sum}
 use Rattle.venice_isa.proofs.Beats.{element_length, elements_length, sum_on}
 use Rattle.venice_isa.proofs.Results.{result_in_type}
 use Rattle.ven_base.proofs.Wrapped.{IsElement-wrapped}
-use Rattle.lane_machine.specs.declared.outcome.Outcome.{Outcome}
 use Rattle.lane_machine.specs.Current.{IsBounded}
-use Rattle.lane_machine.specs.Group.{outcome_at, AreOutcomes}
+use Rattle.lane_machine.specs.Group.{Begins}
+use Rattle.lane_machine.proofs.Begins.{begins_at}
 use Rattle.lane_machine.proofs.Elements.{overwritten-append, overwritten_by_itself}
 
 -- ---- results
@@ -44,15 +40,6 @@ number_of_a_in_type work cells r j =
 pub result_at_in_type : (work : VecWork) (cells : List Cell) (r j : ℕ) → IsElement work.kind.elem (result_at work cells r j)
 unfolding result_at
 result_at_in_type work cells r j = result_in_type work.kind (number_of_a work cells r j) (number_of_b work cells r j) (number_of_a_in_type work cells r j)
-
-pub conditional_uses_b : (op : VecOp) → is_conditional op ≡ true → uses_b op ≡ true
-conditional_uses_b Cmov conditional = refl
-conditional_uses_b op conditional = absurd (false≢true conditional)
-
-pub conditional_vector : (op : VecOp) (b_scalar acc : Bool) → allows_mode op b_scalar acc ≡ true → is_conditional op ≡ true → b_scalar ≡ false
-conditional_vector Cmov true acc allowed conditional = absurd (false≢true allowed)
-conditional_vector Cmov false acc allowed conditional = refl
-conditional_vector op b_scalar acc allowed conditional = absurd (false≢true conditional)
 
 -- ---- sums
 
@@ -73,6 +60,12 @@ pub bounded_sum : (first count : ℕ) (sum more : ℤ) → IsBounded first sum �
 bounded_sum first count sum more bounded by =
     record { from_least = omega (arith, ints, bounded.from_least, by.from_least); to_greatest = omega (arith, ints, bounded.to_greatest, by.to_greatest) }
 
+-- a row's sum with the sum of a group is computed exactly
+pub exact_sum : (sum part passed : ℤ) (first count : ℕ) → IsBounded first sum → IsBounded count part → first < 2 ^ 32 → count ≤ 16 → passed ≡ to_z w64 (of_z w64 part) → to_z w128 (of_z w128 (to_z w128 (of_z w128 sum) +ℤ to_z w128 (of_z w128 passed))) ≡ sum +ℤ part
+exact_sum sum part passed first count bounded by few_before few is =
+    let same : to_z w64 (of_z w64 part) ≡ part = omega (arith, ints, by.from_least, by.to_greatest) in
+    omega (arith, ints, is, same, bounded.from_least, bounded.to_greatest, by.from_least, by.to_greatest)
+
 -- the sum of the results so far
 pub record IsSummed (work : VecWork) (cells : List Cell) (r first count : ℕ) (sum : ℤ) : Type 0 where
   pub is : sum ≡ sum_of_results work cells r first count
@@ -87,43 +80,15 @@ summed_more work cells r first count sum n summed is in_type = record {
   bounded = bounded_more work.kind.elem count sum n summed.bounded in_type;
 }
 
--- ---- outcomes
-
-pub outcomes_more : (work : VecWork) (cells : List Cell) (r first i : ℕ) (outcomes : List Outcome) (new : Outcome) → i < length outcomes → AreOutcomes work cells r first i outcomes → new ≡ outcome_at work cells r (first + i) → AreOutcomes work cells r first (i + 1) (set outcomes i new)
-outcomes_more work cells r first i outcomes new inside so_far is k below =
-    elim (cases_eq k i) [
-      | inl same ↦
-          let here : slice_get (set outcomes i new) i ≡ Some (outcome_at work cells r (first + i)) = slice_get-get_or (set outcomes i new) i new (omega (arith, length-set outcomes i new)) ∙ ap (λ o. Some o) (get_or-set_same outcomes i new new inside ∙ is) in
-          subst (λ n. slice_get (set outcomes i new) n ≡ Some (outcome_at work cells r (first + n))) (sym same) here
-      | inr other ↦
-          same_slot new outcomes (set outcomes i new) k (length-set outcomes i new) (get_or-set_other outcomes i k new new other)
-          ∙ so_far k (omega arith)
-    ]
-
--- what an array of outcomes is said to hold past its end
-abbrev pub nothing : Outcome
-nothing = record { number = pos 0; left_alone = false }
-
--- the outcomes so far, in their array
-pub record AreGathered (work : VecWork) (cells : List Cell) (r first count : ℕ) (outcomes : List Outcome) : Type 0 where
-  pub long : length outcomes ≡ 16
-  pub each : AreOutcomes work cells r first count outcomes
-
-pub gathered_more : (work : VecWork) (cells : List Cell) (r first i : ℕ) (outcomes : List Outcome) (new : Outcome) → i < 16 → AreGathered work cells r first i outcomes → new ≡ outcome_at work cells r (first + i) → AreGathered work cells r first (i + 1) (set outcomes i new)
-gathered_more work cells r first i outcomes new inside so_far is = record {
-  long = length-set outcomes i new ∙ so_far.long;
-  each = outcomes_more work cells r first i outcomes new (omega (arith, so_far.long)) so_far.each is;
-}
-
-pub same_outcome : (work : VecWork) (cells : List Cell) (r j : ℕ) (n : ℤ) (left : Bool) → n ≡ result_at work cells r j → left ≡ is_left_alone work cells r j → ◌≡◌ {A = Outcome} (record { number = n; left_alone = left }) (outcome_at work cells r j)
-same_outcome work cells r j n left is alone =
-    let made : ℤ → Bool → Outcome = λ m b. record { number = m; left_alone = b } in
-    ap (λ m. made m left) is ∙ ap (made (result_at work cells r j)) alone
-
 -- a number of a type fits 64 bits
 pub element_fits : (elem : Elem) (n : ℤ) → IsElement elem n → SFits w64 n
 element_fits elem (pos n) in_type = let bounds = element_bounded elem (pos n) in_type in record { sfits = omega (arith, ints, bounds.1) }
 element_fits elem (negsuc n) in_type = let bounds = element_bounded elem (negsuc n) in_type in record { sfits = omega (arith, ints, bounds.0) }
+
+-- an item of a list of numbers of a type
+pub number_read : (elem : Elem) (item : ℕ → ℤ) (count : ℕ) (items : List ℤ) (k : ℕ) → Begins count item items → k < count → IsElement elem (item k) → to_z w64 (of_z w64 (get_or items k (pos 0))) ≡ item k
+number_read elem item count items k begins below in_type =
+    ap (λ n. to_z w64 (of_z w64 n)) (begins_at item count items (pos 0) k begins below) ∙ to_z-of_z w64 (item k) (element_fits elem (item k) in_type)
 
 -- ---- writes
 

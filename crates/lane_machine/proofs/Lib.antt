@@ -1,7 +1,9 @@
-pub mod Currents
 pub mod Elements
+pub mod Begins
+pub mod Operands
 pub mod Places
+pub mod Currents
 pub mod Groups
 pub mod Beats
-pub mod Queues
+pub mod Kept
 pub mod Finishing

@@ -1,6 +1,6 @@
-pub mod Walk
-pub mod Current
 pub mod Group
+pub mod Operand
+pub mod Current
 pub mod State
 pub mod Lanes
 pub mod Laws

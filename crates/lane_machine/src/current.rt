@@ -1,22 +1,25 @@
 //! How far the queue's first work has come.
-ghost use Rattle.std.specs.Prelude.{◌≡◌, ◌+◌, ◌<◌, ◌≤◌, MatchOption};
+ghost use Rattle.std.specs.Prelude.{◌≡◌, ℕ, ◌+◌, ◌*◌, ◌<◌, ◌≤◌, ◌^◌, IsTrue, IsFalse, pos};
+ghost use Rattle.ven_base.specs.Wrap.{wrapped};
+ghost use Rattle.venice_isa.specs.Footprint.{source_a, source_b};
 ghost use Rattle.venice_isa.specs.Whole.{HasCounts};
+ghost use Rattle.venice_isa.specs.Beat.{beats_of_row};
+ghost use Rattle.lane_machine.specs.Operand.{IsOperand};
+ghost use Rattle.lane_machine.specs.Current.{has_number_for_b};
 
-use crate::walk::Walk;
+use crate::operand::Operand;
 use ven_base::wrap;
-use venice_isa::VecWork;
+use venice_isa::{VecWork, Walk};
 
 /// A work under way. What stays the same for the whole work is worked out when it comes to the
-/// front: how many elements a beat takes, and the numbers of scalars. The rest goes on by sums: the beats done, the row and the elements of it that are behind, the ways through
-/// the operands and, with accumulate, the row's sum so far.
+/// front: how many elements a whole beat takes, and the numbers of scalars. The rest goes on by
+/// sums: the operands and the destination, the row and the elements of it that are behind, the
+/// beats done and, with accumulate, the row's sum so far.
 #[derive(Clone, Copy, Debug)]
 pub struct Current {
-    pub lanes: u32,
     pub group: u32,
-    pub a_number: i64,
-    pub b_number: i64,
-    pub a: Walk,
-    pub b: Walk,
+    pub a: Operand,
+    pub b: Operand,
     pub dst: Walk,
     pub row: u32,
     pub first: u32,
@@ -25,52 +28,24 @@ pub struct Current {
 }
 
 impl Current {
-    ghost use Rattle.lane_machine.specs.Current.{IsAt, IsIdle, IsBounded, IsNext, progress_of, group_of};
-    ghost use Rattle.venice_isa.specs.Beat.{not_begun, vector_beats};
-
-    /// No work.
-    pub fn idle(lanes: u32) -> Current
-        ensures { IsIdle lanes result }
-    {
-        let nowhere = Walk {
-            row: 0,
-            behind: 0,
-            step: 0,
-            size: 0,
-        };
-        Current {
-            lanes,
-            group: 0,
-            a_number: 0,
-            b_number: 0,
-            a: nowhere,
-            b: nowhere,
-            dst: nowhere,
-            row: 0,
-            first: 0,
-            done: 0,
-            sum: 0,
-        }
-    }
+    ghost use Rattle.lane_machine.specs.Current.{IsAt, IsUnderWay, IsBounded, IsNext, CanGo, CanGoToNextRow, progress_of, group_of, gone_on, turned};
+    ghost use Rattle.lane_machine.specs.Group.{IsInside};
+    ghost use Rattle.venice_isa.specs.Beat.{not_begun};
 
     /// A work that has not begun.
     pub fn begin(work: &VecWork, lanes: u32) -> Current
         requires counts { HasCounts work.now }
         requires some_lanes { 0 < lanes }
         requires few_lanes { lanes ≤ 4 }
-        ensures at { IsAt lanes work.now result }
+        ensures at { IsUnderWay lanes work.now result }
         ensures begins { progress_of result ≡ not_begun }
     {
-        let a_number = wrap(work.kind.from, i128::from(work.a));
-        let b_number = wrap(work.kind.elem, i128::from(work.b));
+        let group = work.kind.group(lanes);
         Current {
-            lanes,
-            group: work.kind.group(lanes),
-            a_number,
-            b_number,
-            a: Walk::begin(work.source_a()),
-            b: Walk::begin(work.source_b()),
-            dst: Walk::begin(work.destination()),
+            group,
+            a: operand_a(work, group),
+            b: operand_b(work, group),
+            dst: Walk::begin(work.destination(), group),
             row: 0,
             first: 0,
             done: 0,
@@ -80,47 +55,86 @@ impl Current {
 
     /// How many elements the next beat takes: a group, or the row's rest.
     pub fn count(&self, work: &VecWork) -> u32
-        requires { IsAt self.now.lanes work.now self.now }
+        requires { IsAt work.now self.now }
         ensures value { result ≡ group_of work.now self.now }
         ensures in_row { self.now.first + result ≤ work.now.vl }
+        ensures some { 0 < result }
         ensures few { result ≤ 16 }
     {
         self.group.min(work.vl - self.first)
     }
 
-    /// The work after a beat that took `count` elements, where that was not the last. `sum` is the
-    /// row's sum with these elements, which ends with the row.
-    pub fn after(&self, work: &VecWork, count: u32, sum: i128) -> Option<Current>
+    /// Goes on past a beat that took `count` elements. `sum` is the row's sum with these elements,
+    /// which ends with the row. False, with nothing changed, where that was the last beat.
+    pub fn advance(&mut self, work: &VecWork, count: u32, sum: i128) -> bool
         requires counts { HasCounts work.now }
-        requires some_lanes { 0 < self.now.lanes }
-        requires at { IsAt self.now.lanes work.now self.now }
-        requires count { count ≡ group_of work.now self.now }
-        requires bounded { IsBounded (self.now.first + count) sum }
-        ensures { MatchOption result (self.now.done + 1 ≡ vector_beats work.now self.now.lanes) (IsNext self.now.lanes work.now self.now sum) }
+        requires at { IsAt work.now self.old }
+        requires inside { IsInside work.now (2 ^ 32) }
+        requires count { count ≡ group_of work.now self.old }
+        requires bounded { IsBounded (self.old.first + count) sum }
+        ensures goes_on { IsTrue result → IsNext work.now self.old sum self.new }
+        ensures ends { IsFalse result → self.old.done + 1 ≡ work.now.rows * beats_of_row work.now.vl self.old.group }
     {
-        if count < work.vl - self.first {
-            Some(Current {
-                first: self.first + count,
-                done: self.done + 1,
-                sum,
-                a: self.a.after(count),
-                b: self.b.after(count),
-                dst: self.dst.after(count),
-                ..*self
-            })
-        } else if 1 < work.rows - self.row {
-            Some(Current {
-                row: self.row + 1,
-                first: 0,
-                done: self.done + 1,
-                sum: 0,
-                a: self.a.next_row(),
-                b: self.b.next_row(),
-                dst: self.dst.next_row(),
-                ..*self
-            })
+        let VecWork { vl, rows, .. } = *work;
+        if count < vl - self.first {
+            self.go_on(sum);
+            true
+        } else if 1 < rows - self.row {
+            self.next_row();
+            true
         } else {
-            None
+            false
         }
+    }
+
+    /// Goes on by a whole group of the row.
+    fn go_on(&mut self, sum: i128)
+        requires { CanGo self.old }
+        ensures { self.new ≡ gone_on self.old sum }
+    {
+        self.a.go_on();
+        self.b.go_on();
+        self.dst.go_on();
+        self.first += self.group;
+        self.done += 1;
+        self.sum = sum;
+    }
+
+    /// Goes on to the next row.
+    fn next_row(&mut self)
+        requires { CanGoToNextRow self.old }
+        ensures { self.new ≡ turned self.old }
+    {
+        self.a.next_row();
+        self.b.next_row();
+        self.dst.next_row();
+        self.row += 1;
+        self.first = 0;
+        self.done += 1;
+        self.sum = 0;
+    }
+}
+
+/// A, from its first element on.
+fn operand_a(work: &VecWork, group: u32) -> Operand
+    requires { group ≤ 16 }
+    ensures { IsOperand (wrapped work.now.kind.from (pos work.now.a)) work.now.kind.a_scalar (source_a work.now) group 0 0 result }
+{
+    if work.kind.a_scalar {
+        Operand::Number(wrap(work.kind.from, i128::from(work.a)))
+    } else {
+        Operand::Elements(Walk::begin(work.source_a(), group))
+    }
+}
+
+/// B, from its first element on. Where it isn't used, any number serves.
+fn operand_b(work: &VecWork, group: u32) -> Operand
+    requires { group ≤ 16 }
+    ensures { IsOperand (wrapped work.now.kind.elem (pos work.now.b)) (has_number_for_b work.now) (source_b work.now) group 0 0 result }
+{
+    if !work.kind.op.uses_b() || work.kind.b_scalar {
+        Operand::Number(wrap(work.kind.elem, i128::from(work.b)))
+    } else {
+        Operand::Elements(Walk::begin(work.source_b(), group))
     }
 }

@@ -1,23 +1,69 @@
 //! Elements of the scratchpad as numbers of their type.
-ghost use Rattle.std.specs.Prelude.{◌≡◌, ◌+◌, ◌*◌, ◌<◌, ◌≤◌, ◌^◌, length, map, pos};
-ghost use Rattle.ven_base.specs.Elem.{size_of, modulus_of, IsElement};
+ghost use Rattle.std.specs.Prelude.{◌≡◌, ◌+◌, ◌*◌, ◌<◌, ◌≤◌, ◌^◌, ◌+ℤ◌, ◌≤ℤ◌, length, pos};
+ghost use Rattle.ven_base.specs.Elem.{size_of, modulus_of, least_of, IsElement};
+ghost use Rattle.ven_base.specs.declared.elem.Elem.{Elem};
 ghost use Rattle.ven_base.specs.Operation.{bits_of};
 ghost use Rattle.ven_base.specs.Wrap.{wrapped};
-ghost use Rattle.spad_store.specs.Cells.{byte_at};
-ghost use Rattle.venice_isa.specs.Cell.{byte_of, part, overwritten};
-ghost use Rattle.venice_isa.specs.Element.{little_endian, number_at, spelled};
+ghost use Rattle.spad_store.specs.Cells.{flag_at};
+ghost use Rattle.venice_isa.specs.Cell.{overwritten};
+ghost use Rattle.venice_isa.specs.Element.{number_at, spelled};
+ghost use Rattle.lane_machine.specs.Group.{Begins};
 
+use crate::width::{FourBytes, OneByte, TwoBytes, Width};
 use spad_store::Spad;
 use ven_base::Elem;
 
-/// The number of the element that begins at a place.
-pub fn number_at(cells: &Spad, elem: Elem, place: u32) -> i64
-    requires inside { place + size_of elem ≤ length cells.now }
+/// The most elements that a beat takes: four lanes of 4 bytes, in elements of a byte.
+pub const MOST: usize = 16;
+
+/// The numbers of so many elements, the first of which begins at a place.
+pub fn numbers_at(cells: &Spad, elem: Elem, place: u32, count: u32) -> [i64; MOST]
+    requires few { count ≤ 16 }
+    requires inside { place + count * size_of elem ≤ length cells.now }
     requires small { length cells.now < 2 ^ 32 }
-    ensures value { result ≡ number_at elem cells.now place }
-    ensures in_type { IsElement elem result }
+    ensures { Begins count (λ k. number_at elem cells.now (place + k * size_of elem)) result }
 {
-    number_of(elem, bits_at(cells, elem, place))
+    match elem {
+        Elem::U8 | Elem::I8 => numbers_of::<OneByte>(cells, elem, place, count),
+        Elem::U16 | Elem::I16 => numbers_of::<TwoBytes>(cells, elem, place, count),
+        Elem::U32 | Elem::I32 => numbers_of::<FourBytes>(cells, elem, place, count),
+    }
+}
+
+/// The numbers of elements of one width.
+fn numbers_of<W: Width>(cells: &Spad, elem: Elem, place: u32, count: u32) -> [i64; MOST]
+    requires width { W.SIZE ≡ size_of elem }
+    requires few { count ≤ 16 }
+    requires inside { place + count * size_of elem ≤ length cells.now }
+    requires small { length cells.now < 2 ^ 32 }
+    ensures { Begins count (λ k. number_at elem cells.now (place + k * size_of elem)) result }
+{
+    let (end, modulus) = (elem.end(), elem.modulus());
+    let mut numbers = [0; MOST];
+    let mut at = place;
+    for i in 0..count {
+        numbers[i as usize] = number_of(W::bits(cells, at), end, modulus);
+        at += W::SIZE;
+    }
+    numbers
+}
+
+/// The flags of the first bytes of so many elements, the first of which begins at a place.
+pub fn flags_at(cells: &Spad, elem: Elem, place: u32, count: u32) -> [bool; MOST]
+    requires few { count ≤ 16 }
+    requires inside { place + count * size_of elem ≤ length cells.now }
+    requires small { length cells.now < 2 ^ 32 }
+    ensures { Begins count (λ k. flag_at cells.now (place + k * size_of elem)) result }
+{
+    let size = elem.size();
+    let mut flags = [false; MOST];
+    let mut at = place;
+    for i in 0..count {
+        let end = at + size;
+        flags[i as usize] = cells.flag(at);
+        at = end;
+    }
+    flags
 }
 
 /// Writes the bytes of a number at a place, each with the flag.
@@ -27,53 +73,27 @@ pub fn put_number(cells: &mut Spad, elem: Elem, place: u32, n: i64, flag: bool)
     requires in_type { IsElement elem n }
     ensures { cells.new ≡ overwritten cells.old place (spelled elem n flag) }
 {
-    let mut bits = bits_of(elem, n);
-    for k in 0..elem.size() {
-        cells.put(place + k, (bits % 256) as u8, flag);
-        bits /= 256;
-    }
-}
-
-/// The number whose lowest byte stands at a place.
-fn bits_at(cells: &Spad, elem: Elem, place: u32) -> u32
-    requires inside { place + size_of elem ≤ length cells.now }
-    requires small { length cells.now < 2 ^ 32 }
-    ensures value { result ≡ little_endian (map byte_of (part cells.now place (size_of elem))) }
-    ensures within { result < modulus_of elem }
-{
+    let bits = bits_of(elem, n);
     match elem {
-        Elem::U8 | Elem::I8 => u32::from(cells.byte(place)),
-        Elem::U16 | Elem::I16 => two_at(cells, place),
-        Elem::U32 | Elem::I32 => two_at(cells, place) + 0x1_0000 * two_at(cells, place + 2),
+        Elem::U8 | Elem::I8 => OneByte::put(cells, place, bits, flag),
+        Elem::U16 | Elem::I16 => TwoBytes::put(cells, place, bits, flag),
+        Elem::U32 | Elem::I32 => FourBytes::put(cells, place, bits, flag),
     }
 }
 
-/// The number that two bytes spell.
-fn two_at(cells: &Spad, place: u32) -> u32
-    requires inside { place + 2 ≤ length cells.now }
-    requires small { length cells.now < 2 ^ 32 }
-    ensures value { result ≡ byte_at cells.now place + 256 * byte_at cells.now (place + 1) }
-    ensures within { result < 2 ^ 16 }
-{
-    u32::from(cells.byte(place)) + 256 * u32::from(cells.byte(place + 1))
-}
-
-/// The number of the type that has these bits.
-fn number_of(elem: Elem, bits: u32) -> i64
-    requires { bits < modulus_of elem }
-    ensures value { result ≡ wrapped elem (pos bits) }
-    ensures in_type { IsElement elem result }
+/// The number that has these bits, of the type whose numbers end before `end` and of which there
+/// are `modulus`.
+fn number_of(bits: u32, end: i64, modulus: i64) -> i64
+    requires { pos 0 ≤ℤ modulus }
+    ensures { (elem : Elem) → end ≡ least_of elem +ℤ pos (modulus_of elem) → modulus ≡ pos (modulus_of elem) → bits < modulus_of elem →
+        result ≡ wrapped elem (pos bits) }
 {
     let n = i64::from(bits);
-    if n < elem.end() {
-        n
-    } else {
-        n - elem.modulus()
-    }
+    if n < end { n } else { n - modulus }
 }
 
 /// The bits of a number of the type.
-fn bits_of(elem: Elem, n: i64) -> u32
+pub fn bits_of(elem: Elem, n: i64) -> u32
     requires { IsElement elem n }
     ensures { result ≡ bits_of elem n }
 {

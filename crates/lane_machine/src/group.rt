@@ -1,113 +1,191 @@
 //! What a beat does with the next elements of a row. All sources are read before the first write.
-ghost use Rattle.std.specs.Prelude.{◌≡◌, ◌+◌, ◌*◌, ◌<◌, ◌≤◌, ◌^◌, ℕ, ℤ, pos, length, IsTrue, IsFalse, if◌then◌else◌};
-ghost use Rattle.ven_base.specs.Elem.{IsElement};
+ghost use Rattle.std.specs.Prelude.{◌≡◌, ◌+◌, ◌*◌, ◌<◌, ◌≤◌, ◌^◌, ℕ, pos, length, IsTrue, IsFalse, if◌then◌else◌};
+ghost use Rattle.ven_base.specs.Elem.{size_of};
 ghost use Rattle.venice_isa.specs.Cell.{overwritten};
 ghost use Rattle.venice_isa.specs.Region.{place_in};
 ghost use Rattle.venice_isa.specs.Footprint.{destination};
-ghost use Rattle.venice_isa.specs.Whole.{number_of_a, number_of_b, result_at, is_left_alone, sum_of_results, spelled_sum, HasCounts};
-ghost use Rattle.venice_isa.specs.Mode.{uses_b};
-ghost use Rattle.venice_isa.specs.Beat.{new_elements, vector_beat, lane_group_at, sum_after};
-ghost use Rattle.lane_machine.specs.Group.{IsInside, AreOutcomes};
+ghost use Rattle.venice_isa.specs.Whole.{sum_of_results, spelled_sum, HasCounts};
+ghost use Rattle.venice_isa.specs.Mode.{is_conditional};
+ghost use Rattle.venice_isa.specs.Beat.{new_elements, vector_beat, lane_group, lane_group_at, sum_after};
+ghost use Rattle.lane_machine.specs.Group.{IsInside, Begins, results_from, is_written_from};
 ghost use Rattle.lane_machine.specs.Current.{IsAt, IsPlaced, IsBounded, group_of, progress_of};
 
 use crate::current::Current;
-use crate::element::{number_at, put_number};
-use crate::outcome::Outcome;
+use crate::element::{MOST, bits_of, put_number};
+use crate::width::{FourBytes, OneByte, TwoBytes, Width};
 use spad_store::Spad;
-use ven_base::wrap;
+use ven_base::{Elem, wrap};
 use venice_isa::{VecWork, result_of, sets_flag};
-
-/// The most elements that a beat takes: four lanes of 4 bytes, in elements of a byte.
-const MOST: usize = 16;
 
 /// Does the next beat of a work, which takes `count` elements. Gives the row's sum with their
 /// results, which is 0 without accumulate.
 pub fn beat(cells: &mut Spad, work: &VecWork, current: &Current, count: u32) -> i128
     requires counts { HasCounts work.now }
-    requires some_lanes { 0 < current.now.lanes }
-    requires at { IsAt current.now.lanes work.now current.now }
+    requires at { IsAt work.now current.now }
     requires count { count ≡ group_of work.now current.now }
     requires inside { IsInside work.now (length cells.old) }
     requires small { length cells.old < 2 ^ 32 }
 
-    ensures cells { cells.new ≡ vector_beat work.now current.now.lanes (progress_of current.now) cells.old }
-    ensures sum { result ≡ (if work.now.kind.acc then sum_after work.now (progress_of current.now) cells.old (lane_group_at work.now current.now.lanes (progress_of current.now)) else pos 0) }
+    ensures cells { (lanes : ℕ) → current.now.group ≡ lane_group work.now.kind lanes →
+        cells.new ≡ vector_beat work.now lanes (progress_of current.now) cells.old }
+    ensures sum { (lanes : ℕ) → current.now.group ≡ lane_group work.now.kind lanes →
+        result ≡ (if work.now.kind.acc then sum_after work.now (progress_of current.now) cells.old (lane_group_at work.now lanes (progress_of current.now)) else pos 0) }
     ensures bounded { IsBounded (current.now.first + count) result }
 {
     if work.kind.acc {
-        let sum = current.sum + sum_of(cells, work, current, count);
+        let sum = current.sum + i128::from(sum_of(cells, work, current, count));
         if work.vl - current.first == count {
             put_sum(cells, work, current, sum);
         }
-        sum
-    } else {
-        let outcomes = outcomes(cells, work, current, count);
-        put_outcomes(cells, work, current, count, &outcomes);
-        0
+        return sum;
     }
+    if work.kind.op.is_conditional() {
+        move_flagged(cells, work, current, count);
+    } else {
+        let results = results(cells, work, current, count);
+        put_all(cells, work, current, count, &results);
+    }
+    0
 }
 
-/// The results of the next `count` elements, from the cells as they are.
-fn outcomes(cells: &Spad, work: &VecWork, current: &Current, count: u32) -> [Outcome; MOST]
+/// The results for the next `count` elements, from the cells as they are.
+fn results(cells: &Spad, work: &VecWork, current: &Current, count: u32) -> [i64; MOST]
     requires placed { IsPlaced work.now current.now }
     requires in_row { current.now.first + count ≤ work.now.vl }
+    requires some { 0 < count }
     requires few { count ≤ 16 }
     requires inside { IsInside work.now (length cells.now) }
     requires small { length cells.now < 2 ^ 32 }
-    ensures { AreOutcomes work.now cells.now current.now.row current.now.first count result }
+    ensures { Begins count (results_from work.now cells.now current.now.row current.now.first) result }
 {
-    let mut outcomes = [Outcome {
-        number: 0,
-        left_alone: true,
-    }; MOST];
-    for i in 0..count {
-        let number = result_at(cells, work, current, i);
-        let left_alone = is_left_alone(cells, work, current, i);
-        outcomes[i as usize] = Outcome { number, left_alone };
+    let a = current.a.numbers(cells, work.kind.from, count);
+    let b = current.b.numbers(cells, work.kind.elem, count);
+    let mut results = [0; MOST];
+    for i in 0..count as usize {
+        results[i] = result_of(work.kind, a[i], b[i]);
     }
-    outcomes
+    results
 }
 
-/// Writes these results into the next elements of the destination, with their flags.
-fn put_outcomes(
+/// Moves A's elements to those of the next elements where the flag of B's first byte is set.
+fn move_flagged(cells: &mut Spad, work: &VecWork, current: &Current, count: u32)
+    requires conditional { IsTrue (is_conditional work.now.kind.op) }
+    requires placed { IsPlaced work.now current.now }
+    requires in_row { current.now.first + count ≤ work.now.vl }
+    requires some { 0 < count }
+    requires few { count ≤ 16 }
+    requires inside { IsInside work.now (length cells.old) }
+    requires small { length cells.old < 2 ^ 32 }
+    ensures { cells.new ≡ overwritten cells.old (place_in (destination work.now) current.now.row current.now.first)
+        (new_elements work.now cells.old current.now.row current.now.first count) }
+{
+    let numbers = current.a.numbers(cells, work.kind.from, count);
+    let flags = current.b.flags(cells, work.kind.elem, count);
+    put_results(cells, work, current, count, &numbers, &flags);
+}
+
+/// Writes results, with their flags, into the next elements of the destination.
+fn put_all(cells: &mut Spad, work: &VecWork, current: &Current, count: u32, results: &[i64; MOST])
+    requires no_sum { IsFalse work.now.kind.acc }
+    requires plain { IsFalse (is_conditional work.now.kind.op) }
+    requires placed { IsPlaced work.now current.now }
+    requires in_row { current.now.first + count ≤ work.now.vl }
+    requires some { 0 < count }
+    requires few { count ≤ 16 }
+    requires inside { IsInside work.now (length cells.old) }
+    requires small { length cells.old < 2 ^ 32 }
+    requires results { Begins count (results_from work.now cells.old current.now.row current.now.first) results.now }
+    ensures cells { cells.new ≡ overwritten cells.old (place_in (destination work.now) current.now.row current.now.first)
+        (new_elements work.now cells.old current.now.row current.now.first count) }
+    ensures same_length { length cells.new ≡ length cells.old }
+{
+    put_results(cells, work, current, count, results, &[true; MOST]);
+}
+
+/// Writes results, with their flags, into those of the next elements of the destination that are
+/// written.
+fn put_results(
     cells: &mut Spad,
     work: &VecWork,
     current: &Current,
     count: u32,
-    outcomes: &[Outcome; MOST],
+    results: &[i64; MOST],
+    written: &[bool; MOST],
 )
     requires no_sum { IsFalse work.now.kind.acc }
     requires placed { IsPlaced work.now current.now }
     requires in_row { current.now.first + count ≤ work.now.vl }
+    requires some { 0 < count }
     requires few { count ≤ 16 }
     requires inside { IsInside work.now (length cells.old) }
     requires small { length cells.old < 2 ^ 32 }
-    requires outcomes { AreOutcomes work.now cells.old current.now.row current.now.first count outcomes.now }
-    ensures { cells.new ≡ overwritten cells.old (place_in (destination work.now) current.now.row current.now.first)
+    requires results { Begins count (results_from work.now cells.old current.now.row current.now.first) results.now }
+    requires written { Begins count (is_written_from work.now cells.old current.now.row current.now.first) written.now }
+    ensures cells { cells.new ≡ overwritten cells.old (place_in (destination work.now) current.now.row current.now.first)
         (new_elements work.now cells.old current.now.row current.now.first count) }
+    ensures same_length { length cells.new ≡ length cells.old }
 {
-    for i in 0..count {
-        let outcome = outcomes[i as usize];
-        if !outcome.left_alone {
-            let flag = sets_flag(work.kind, outcome.number);
-            let place = current.dst.place(i);
-            put_number(cells, work.kind.elem, place, outcome.number, flag);
+    match work.kind.elem {
+        Elem::U8 | Elem::I8 => put_wide::<OneByte>(cells, work, current, count, results, written),
+        Elem::U16 | Elem::I16 => {
+            put_wide::<TwoBytes>(cells, work, current, count, results, written);
+        }
+        Elem::U32 | Elem::I32 => {
+            put_wide::<FourBytes>(cells, work, current, count, results, written);
         }
     }
 }
 
-/// The sum of the results of the next `count` elements.
-fn sum_of(cells: &Spad, work: &VecWork, current: &Current, count: u32) -> i128
+/// Writes results of one width.
+fn put_wide<W: Width>(
+    cells: &mut Spad,
+    work: &VecWork,
+    current: &Current,
+    count: u32,
+    results: &[i64; MOST],
+    written: &[bool; MOST],
+)
+    requires width { W.SIZE ≡ size_of work.now.kind.elem }
+    requires no_sum { IsFalse work.now.kind.acc }
     requires placed { IsPlaced work.now current.now }
     requires in_row { current.now.first + count ≤ work.now.vl }
+    requires some { 0 < count }
+    requires few { count ≤ 16 }
+    requires inside { IsInside work.now (length cells.old) }
+    requires small { length cells.old < 2 ^ 32 }
+    requires results { Begins count (results_from work.now cells.old current.now.row current.now.first) results.now }
+    requires written { Begins count (is_written_from work.now cells.old current.now.row current.now.first) written.now }
+    ensures cells { cells.new ≡ overwritten cells.old (place_in (destination work.now) current.now.row current.now.first)
+        (new_elements work.now cells.old current.now.row current.now.first count) }
+    ensures same_length { length cells.new ≡ length cells.old }
+{
+    let kind = work.kind;
+    let mut place = current.dst.next as u32;
+    for i in 0..count as usize {
+        if written[i] {
+            let number = results[i];
+            let flag = sets_flag(kind, number);
+            W::put(cells, place, bits_of(kind.elem, number), flag);
+        }
+        place += W::SIZE;
+    }
+}
+
+/// The sum of the results for the next `count` elements.
+fn sum_of(cells: &Spad, work: &VecWork, current: &Current, count: u32) -> i64
+    requires placed { IsPlaced work.now current.now }
+    requires in_row { current.now.first + count ≤ work.now.vl }
+    requires some { 0 < count }
+    requires few { count ≤ 16 }
     requires inside { IsInside work.now (length cells.now) }
     requires small { length cells.now < 2 ^ 32 }
     ensures value { result ≡ sum_of_results work.now cells.now current.now.row current.now.first count }
     ensures bounded { IsBounded count result }
 {
+    let results = results(cells, work, current, count);
     let mut sum = 0;
-    for i in 0..count {
-        sum += i128::from(result_at(cells, work, current, i));
+    for i in 0..count as usize {
+        sum += results[i];
     }
     sum
 }
@@ -123,64 +201,4 @@ fn put_sum(cells: &mut Spad, work: &VecWork, current: &Current, sum: i128)
 {
     let number = wrap(work.kind.elem, sum);
     put_number(cells, work.kind.elem, current.dst.row as u32, number, false);
-}
-
-/// The instruction's answer for one of the next elements.
-fn result_at(cells: &Spad, work: &VecWork, current: &Current, i: u32) -> i64
-    requires placed { IsPlaced work.now current.now }
-    requires in_row { current.now.first + i < work.now.vl }
-    requires inside { IsInside work.now (length cells.now) }
-    requires small { length cells.now < 2 ^ 32 }
-    ensures value { result ≡ result_at work.now cells.now current.now.row (current.now.first + i) }
-    ensures in_type { IsElement work.now.kind.elem result }
-{
-    let a = number_of_a(cells, work, current, i);
-    let b = number_of_b(cells, work, current, i);
-    result_of(work.kind, a, b)
-}
-
-/// A's number for one of the next elements.
-fn number_of_a(cells: &Spad, work: &VecWork, current: &Current, i: u32) -> i64
-    requires placed { IsPlaced work.now current.now }
-    requires in_row { current.now.first + i < work.now.vl }
-    requires inside { IsInside work.now (length cells.now) }
-    requires small { length cells.now < 2 ^ 32 }
-    ensures value { result ≡ number_of_a work.now cells.now current.now.row (current.now.first + i) }
-    ensures in_type { IsElement work.now.kind.from result }
-{
-    if work.kind.a_scalar {
-        current.a_number
-    } else {
-        number_at(cells, work.kind.from, current.a.place(i))
-    }
-}
-
-/// B's number for one of the next elements. Where the operation takes no B any number serves.
-fn number_of_b(cells: &Spad, work: &VecWork, current: &Current, i: u32) -> i64
-    requires placed { IsPlaced work.now current.now }
-    requires in_row { current.now.first + i < work.now.vl }
-    requires inside { IsInside work.now (length cells.now) }
-    requires small { length cells.now < 2 ^ 32 }
-    ensures value { IsTrue (uses_b work.now.kind.op) → result ≡ number_of_b work.now cells.now current.now.row (current.now.first + i) }
-    ensures in_type { IsElement work.now.kind.elem result }
-{
-    if !work.kind.op.uses_b() {
-        return current.b_number;
-    }
-    if work.kind.b_scalar {
-        current.b_number
-    } else {
-        number_at(cells, work.kind.elem, current.b.place(i))
-    }
-}
-
-/// Whether one of the next elements of the destination is left alone.
-fn is_left_alone(cells: &Spad, work: &VecWork, current: &Current, i: u32) -> bool
-    requires placed { IsPlaced work.now current.now }
-    requires in_row { current.now.first + i < work.now.vl }
-    requires inside { IsInside work.now (length cells.now) }
-    requires small { length cells.now < 2 ^ 32 }
-    ensures { result ≡ is_left_alone work.now cells.now current.now.row (current.now.first + i) }
-{
-    work.kind.op.is_conditional() && !cells.flag(current.b.place(i))
 }

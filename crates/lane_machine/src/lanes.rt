@@ -1,7 +1,10 @@
-ghost use Rattle.std.specs.Prelude.{◌≡◌, ◌<◌, ◌≤◌, [], length, drop, All, MatchOption, IfSome, IfOk, slice_get};
+//! The unit of the vector instructions.
+ghost use Rattle.std.specs.Prelude.{◌≡◌, ◌<◌, ◌≤◌, [], length, drop, All, IfSome, IfOk, slice_get};
+ghost use Rattle.spad_store.specs.Front.{IsFront};
 ghost use Rattle.venice_isa.specs.Whole.{HasCounts, IsSimple, IsWhole};
-ghost use Rattle.lane_machine.specs.Current.{IsAt, IsIdle, progress_of};
 ghost use Rattle.venice_isa.specs.Beat.{not_begun, vector_beats};
+ghost use Rattle.lane_machine.specs.Current.{IsUnderWay};
+ghost use Rattle.lane_machine.specs.Lanes.{progress_in};
 ghost use Rattle.lane_machine.specs.Group.{IsInside};
 ghost use Rattle.lane_machine.specs.AllBeats.{all_beats};
 
@@ -13,11 +16,13 @@ use std::alloc::{AllocError, Global};
 use std::marker::Model;
 use venice_isa::VecWork;
 
-/// The lanes: a queue of four vector instructions, of which the first is done beat by beat.
+/// The lanes, from 1 to 4: a queue of four vector instructions, of which the first is done beat by
+/// beat ("Beats" of docs/MACHINE.md).
 #[derive(Drop)]
 pub struct Lanes {
+    lanes: u32,
     queue: HeapCircularBuffer<VecWork>,
-    current: Current,
+    current: Option<Current>,
 }
 
 impl Model for Lanes {
@@ -33,10 +38,11 @@ impl Model for Lanes {
 }
 
 impl Lanes {
-    /// How many works the queue holds.
+    /// How many works the queue holds, the current one among them.
     pub const PLACES: u32 = 4;
 
-    /// So many lanes, from 1 to 4, with an empty queue.
+    /// So many lanes, from 1 to 4, with an empty queue. An `Err` says that there is no memory for
+    /// its places; nothing else takes memory.
     pub fn new(alloc: Global, lanes: u32) -> Result<Lanes, AllocError>
         requires some { 0 < lanes }
         requires few { lanes ≤ 4 }
@@ -44,13 +50,15 @@ impl Lanes {
     {
         let queue = HeapCircularBuffer::with_capacity(alloc, Self::PLACES as usize)?;
         Ok(Lanes {
+            lanes,
             queue,
-            current: Current::idle(lanes),
+            current: None,
         })
     }
 
     /// Does all beats of the queue's first work, which has not begun, and gives their number. The
-    /// beats of a simple work together are its whole effect, for each number of lanes.
+    /// work leaves the queue, whose works all lie in the cells. The beats of a simple work together
+    /// are its whole effect, for each number of lanes ("The whole effect" of docs/MACHINE.md).
     pub fn finish(&mut self, cells: &mut Spad, memory: &mut MainMem) -> u64
         requires some { 0 < length self.old.works }
         requires begins { self.old.progress ≡ not_begun }
@@ -76,25 +84,21 @@ impl Lanes {
         ensures counts { IfSome (slice_get self.now.works 0) HasCounts }
     {
         match self.queue.front() {
-            Some(work) => work.beats(self.current.lanes),
+            Some(work) => work.beats(self.lanes),
             None => 0,
         }
     }
 }
 
-/// The queue's first work, not begun.
-fn first_of(queue: &HeapCircularBuffer<VecWork>, lanes: u32) -> Current
+/// The queue's first work, where there is one, not begun.
+fn begin_first(queue: &HeapCircularBuffer<VecWork>, lanes: u32) -> Option<Current>
     requires counts { All HasCounts queue.now.items }
     requires some_lanes { 0 < lanes }
     requires few_lanes { lanes ≤ 4 }
-    ensures first { MatchOption (slice_get queue.now.items 0) (IsIdle lanes result) (λ work. IsAt lanes work result) }
-    ensures begins { progress_of result ≡ not_begun }
-    ensures lanes { result.lanes ≡ lanes }
+    ensures first { IsFront (IsUnderWay lanes) queue.now.items result }
+    ensures begins { progress_in result ≡ not_begun }
 {
-    match queue.front() {
-        Some(work) => Current::begin(work, lanes),
-        None => Current::idle(lanes),
-    }
+    queue.front().map(|work| Current::begin(work, lanes))
 }
 
 impl Unit for Lanes {
@@ -156,10 +160,11 @@ impl Unit for Lanes {
     ghost takes_a_beat = { some_beat };
 
     fn offer(&mut self, work: VecWork) -> Result<(), VecWork> {
-        if self.queue.is_empty() {
-            self.current = Current::begin(&work, self.current.lanes);
+        self.queue.try_push_back(work)?;
+        if self.current.is_none() {
+            self.current = Some(Current::begin(&work, self.lanes));
         }
-        self.queue.try_push_back(work)
+        Ok(())
     }
 
     fn unfinished(&self) -> u32 {
@@ -174,17 +179,16 @@ impl Unit for Lanes {
         let Some(work) = self.queue.front() else {
             return false;
         };
-        let work = *work;
+        let Some(current) = &mut self.current else {
+            return false;
+        };
         // A place in the cells is a number of 32 bits.
         let _ = cells.len();
-        let count = self.current.count(&work);
-        let sum = beat(cells, &work, &self.current, count);
-        match self.current.after(&work, count, sum) {
-            Some(next) => self.current = next,
-            None => {
-                self.queue.pop_front();
-                self.current = first_of(&self.queue, self.current.lanes);
-            }
+        let count = current.count(work);
+        let sum = beat(cells, work, current, count);
+        if !current.advance(work, count, sum) {
+            self.queue.pop_front();
+            self.current = begin_first(&self.queue, self.lanes);
         }
         true
     }

@@ -1,5 +1,6 @@
 //! Instructions run on a small scratchpad: A stands at cell 0, B at 16 and the destination at 32.
-ghost use Rattle.std.specs.Prelude.{◌≡◌, ◌+◌, ◌<◌, ◌≤◌, IsTrue, IsFalse, length};
+ghost use Rattle.std.specs.Prelude.{◌≡◌, ◌↔◌, ◌+◌, ◌<◌, ◌≤◌, [], ◌∷◌, ◌++◌, IsTrue, IsFalse, IsErr, OnOk, All, length, slice_get};
+ghost use Rattle.spad_store.specs.Footprint.{TouchesBelow};
 ghost use Rattle.venice_isa.specs.Region.{LiesBelow};
 ghost use Rattle.venice_isa.specs.Footprint.{source_a, source_b};
 ghost use Rattle.venice_isa.specs.Mode.{uses_b};
@@ -88,6 +89,42 @@ fn run(alloc: Global, lanes: u32, work: VecWork, cells: &mut Spad) -> Result<u64
     let mut unit = Lanes::new(alloc, lanes)?;
     let _ = unit.offer(work);
     Ok(unit.finish(cells, &mut memory))
+}
+
+/// Offers a work to any unit.
+fn offer_to<U: Unit>(unit: &mut U, work: U::Work) -> Result<(), U::Work>
+    requires { U.has_counts work }
+    ensures full { IsErr result ↔ (length (U.queue unit.old) ≡ U.places) }
+    ensures taken { OnOk result (U.queue unit.new ≡ U.queue unit.old ++ work ∷ []) }
+{
+    unit.offer(work)
+}
+
+/// Beats any unit until its queue is empty, a thousand times at the most, and counts the beats.
+fn count_beats<U: Unit>(unit: &mut U, cells: &mut Spad, memory: &mut MainMem) -> u32
+    requires cells_inside { All (λ work. TouchesBelow (U.reads_cell work) (U.writes_cell work) (length cells.old)) (U.queue unit.old) }
+    requires memory_inside { All (λ work. TouchesBelow (U.reads_memory work) (U.writes_memory work) (length memory.old)) (U.queue unit.old) }
+{
+    for turn in 0..1000 {
+        if unit.unfinished() == 0 {
+            return turn;
+        }
+        unit.beat(cells, memory);
+    }
+    1000
+}
+
+/// The beats of a work on so many lanes, counted.
+fn beats_of(alloc: Global, lanes: u32, work: VecWork, cells: &mut Spad) -> Result<u32, AllocError>
+    requires some_lanes { 0 < lanes }
+    requires few_lanes { lanes ≤ 4 }
+    requires counts { HasCounts work }
+    requires inside { IsInside work (length cells.old) }
+{
+    let mut memory = MainMem::new(alloc, 0)?;
+    let mut unit = Lanes::new(alloc, lanes)?;
+    let _ = offer_to(&mut unit, work);
+    Ok(count_beats(&mut unit, cells, &mut memory))
 }
 
 /// A vector instruction at the operands' cells, whose rows stand 8 cells apart. A scalar's number
@@ -297,10 +334,30 @@ fn a_row_takes_beats_of_its_own(rt: HostRuntime) -> Result<(), Fail> {
         assert!(rt; 0 < lanes && lanes <= 4);
         let mut spad = Spad::new(rt.alloc(), 48)?;
         assert_eq!(rt;
-            run(rt.alloc(), lanes, work, &mut spad)?,
+            beats_of(rt.alloc(), lanes, work, &mut spad)?,
             beats,
             "{op:?} {vl} {lanes}"
         );
+    }
+    Ok(())
+}
+
+// 200, 100, 3, 4 and 5 add up to 312, and 1, 2, 3, 4 and 250 to 260. On one lane a row takes two
+// beats, and each row begins its sum anew.
+#[test]
+fn a_row_adds_up_over_its_beats(rt: HostRuntime) -> Result<(), Fail> {
+    let kind = VecKind::new(VecOp::Add, Elem::U8, Elem::U8, false, true, true);
+    let work = instruction(kind.expect(&rt, "an add that accumulates"), 5, 2, 0, 0);
+    assert!(rt; 0 < work.vl && 0 < work.rows && lies_below(&work, 48));
+    for lanes in 1..5 {
+        let mut spad = Spad::new(rt.alloc(), 48)?;
+        put(&mut spad, 0, plain([200, 100, 3, 4]));
+        put(&mut spad, 4, plain([5, 0, 0, 0]));
+        put(&mut spad, 8, plain([1, 2, 3, 4]));
+        put(&mut spad, 12, plain([250, 0, 0, 0]));
+        run(rt.alloc(), lanes, work, &mut spad)?;
+        assert_eq!(rt; four(&spad, 32), plain([56, 0, 0, 0]));
+        assert_eq!(rt; four(&spad, 40), plain([4, 0, 0, 0]));
     }
     Ok(())
 }
@@ -328,11 +385,12 @@ fn a_work_that_reads_what_it_writes_depends_on_the_lanes(rt: HostRuntime) -> Res
     Ok(())
 }
 
-/// The number of a unit's works, through its trait.
-fn works_of<U: Unit>(unit: &U) -> u32
-    ensures { result ≡ length (U.queue unit.now) }
+/// A work of any unit's queue.
+fn work_of<U: Unit>(unit: &U, k: u32) -> &U::Work
+    requires { k < length (U.queue unit.now) }
+    ensures { slice_get (U.queue unit.now) k ≡ Some result.now }
 {
-    unit.unfinished()
+    unit.work(k)
 }
 
 #[test]
@@ -344,8 +402,8 @@ fn the_queue_has_four_places(rt: HostRuntime) -> Result<(), Fail> {
     }
     let fifth = instruction(kind, 5, 1, 0, 0);
     assert_eq!(rt; unit.offer(fifth), Err(fifth));
-    assert_eq!(rt; works_of(&unit), 4);
-    assert_eq!(rt; unit.work(3).vl, 4);
+    assert_eq!(rt; unit.unfinished(), 4);
+    assert_eq!(rt; work_of(&unit, 3).vl, 4);
     Ok(())
 }
 

@@ -1,5 +1,5 @@
 -- What becomes of a unit's queue: a work comes in last, and the first one comes on or leaves.
-use Rattle.std.proofs.Common.{◌≡◌, ℕ, ◌<◌, sym, refl, subst, arith, List, [], ◌∷◌, ◌++◌, length, drop, Some, None}
+use Rattle.std.proofs.Common.{◌≡◌, ◌⊎◌, inl, inr, ℕ, ◌<◌, sym, refl, subst, arith, List, [], ◌∷◌, ◌++◌, length, drop, Some, None}
 use Rattle.std.specs.Prelude.{slice_get, All, IfSome, Option}
 use Rattle.std.proofs.lemmas.List.{length-drop, length_push}
 use Rattle.std.proofs.lemmas.List.Elements.{All-get_or, All-drop, All-push}
@@ -12,6 +12,11 @@ use Rattle.spad_store.specs.Front.{IsFront}
 -- what holds of each item holds of the first
 pub All-first : {X : Type 0} (P : X → Type 0) (xs : List X) (x : X) → All P xs → slice_get xs 0 ≡ Some x → P x
 All-first P xs x all first = subst P (get_or_from_slice_get xs 0 x x first) (All-get_or P xs 0 x (slice_get_within xs 0 x first) all)
+
+-- what holds of each item holds of those that are left where none leaves or the first one does
+pub All-left : {X : Type 0} (P : X → Type 0) (xs ys : List X) → All P xs → (ys ≡ xs) ⊎ (ys ≡ drop 1 xs) → All P ys
+All-left P xs ys all left =
+    elim left [ inl same ↦ subst (All P) (sym same) all | inr gone ↦ subst (All P) (sym gone) (All-drop P 1 xs all) ]
 
 -- a list that isn't empty has a first item
 pub some_first : {X : Type 0} (xs : List X) → 0 < length xs → (x : X) × (slice_get xs 0 ≡ Some x)

@@ -1,15 +1,32 @@
-use Rattle.std.proofs.Common.{arith, ◌∙◌, subst, w64, ◌≡◌, ◌+◌, ℤ}
-use Rattle.std.specs.Int.{w128, cast_signed, cast_unsigned}
-use Rattle.std.proofs.lemmas.Int.{ints, to_z-of_z}
-use Rattle.lane_machine.proofs.Groups.{IsSummed, summed_more}
+use Rattle.std.proofs.Common.{arith, refl, subst, ◌+◌, ℤ, w64, to_z}
+use Rattle.std.proofs.lemmas.Int.{ints}
+use Rattle.venice_isa.specs.Whole.{result_at}
+use Rattle.lane_machine.specs.Group.{results_from}
+use Rattle.lane_machine.proofs.Groups.{IsSummed, summed_more, number_read, result_at_in_type}
 use Rattle.lane_machine.proofs.group.sum_of.Goals as goal
+
+pub overflow_add-sum : goal.overflow_add-sum
+overflow_add-sum c =
+    let work = c.args.work.now in
+    let current = c.args.current.now in
+    let cells = c.args.cells.now in
+    let i = c.loop-i.i in
+    let sum : ℤ = to_z w64 c.loop-i.sum-bits in
+    let n = result_at work cells current.row (current.first + i) in
+    let in_type = result_at_in_type work cells current.row (current.first + i) in
+    let read = number_read work.kind.elem (results_from work cells current.row current.first) c.args.count c.results-results.result i c.results-results.ensures c.loop-i-test.true in_type in
+    let next = summed_more work cells current.row current.first i sum n c.loop-i.invariant refl in_type in
+    omega (arith, ints, read, next.bounded.from_least, next.bounded.to_greatest, c.requires.few)
 
 pub loop-i-preserved : goal.loop-i-preserved
 loop-i-preserved c =
     let work = c.args.work.now in
     let current = c.args.current.now in
-    let sum : ℤ = cast_signed w128 c.loop-i.sum-bits in
-    let n = c.result_at.result in
-    let next = summed_more work c.args.cells.now current.row current.first c.loop-i.i sum n c.loop-i.invariant c.result_at.ensures.value c.result_at.ensures.in_type in
-    let x : cast_signed w128 (cast_unsigned w128 c.from-sum.result) ≡ n = to_z-of_z w128 c.from-sum.result (record { sfits = c.from-sum.type_inv }) ∙ c.from-sum.ensures ∙ to_z-of_z w64 n (record { sfits = c.result_at.type_inv }) in
-    subst (IsSummed work c.args.cells.now current.row current.first (c.loop-i.i + 1)) (omega (arith, ints, x, next.bounded.from_least, next.bounded.to_greatest, c.ranges.count)) next
+    let cells = c.args.cells.now in
+    let i = c.loop-i.i in
+    let sum : ℤ = to_z w64 c.loop-i.sum-bits in
+    let n = result_at work cells current.row (current.first + i) in
+    let in_type = result_at_in_type work cells current.row (current.first + i) in
+    let read = number_read work.kind.elem (results_from work cells current.row current.first) c.args.count c.results-results.result i c.results-results.ensures c.loop-i-test.true in_type in
+    let next = summed_more work cells current.row current.first i sum n c.loop-i.invariant refl in_type in
+    subst (IsSummed work cells current.row current.first (i + 1)) (omega (arith, ints, read, next.bounded.from_least, next.bounded.to_greatest, c.requires.few)) next

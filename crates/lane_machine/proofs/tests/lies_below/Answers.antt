@@ -1,6 +1,5 @@
 use Rattle.std.proofs.Common.{subst, inl, inr}
 use Rattle.venice_isa.specs.Region.{LiesBelow}
-use Rattle.venice_isa.specs.Footprint.{destination}
 use Rattle.lane_machine.proofs.tests.lies_below.Goals as goal
 
 pub returns : goal.returns

@@ -5,8 +5,8 @@ use Rattle.venice_isa.specs.Beat.{Progress, vector_beats}
 use Rattle.lane_machine.specs.State.{State}
 use Rattle.venice_isa.proofs.OneBeat.{beat_keeps}
 use Rattle.lane_machine.specs.Group.{IsInside}
-use Rattle.lane_machine.proofs.Finishing.{some_first, begins_finishing, goes_on_finishing, whole_by_beats}
-use Rattle.lane_machine.proofs.Queues.{All-first}
+use Rattle.lane_machine.proofs.Finishing.{begins_finishing, goes_on_finishing, whole_by_beats}
+use Rattle.spad_store.proofs.Queues.{All-first, some_first}
 use Rattle.lane_machine.proofs.lanes.Lanes.finish.Goals as goal
 
 pub beat-requires-clause-cells_inside : goal.beat-requires-clause-cells_inside

@@ -1,0 +1,66 @@
+//! Where the numbers of A and of B come from.
+ghost use Rattle.std.specs.Prelude.{◌≡◌, ◌+◌, ◌<◌, ◌≤◌, ◌^◌, length};
+
+use crate::element::{MOST, flags_at, numbers_at};
+use spad_store::Spad;
+use ven_base::Elem;
+use venice_isa::Walk;
+
+/// An operand: one number for all elements, of a scalar or where the operation takes no B, or the
+/// elements on a way through cells.
+#[derive(Clone, Copy, Debug)]
+pub enum Operand {
+    Number(i64),
+    Elements(Walk),
+}
+
+impl Operand {
+    ghost use Rattle.lane_machine.specs.Operand.{EndsBelow, CanGoOn, CanTurn, number_in, flag_in, a_group_on, at_next_row};
+    ghost use Rattle.lane_machine.specs.Group.{Begins};
+
+    /// The numbers for the next `count` elements.
+    pub fn numbers(&self, cells: &Spad, elem: Elem, count: u32) -> [i64; MOST]
+        requires few { count ≤ 16 }
+        requires inside { EndsBelow elem self.now count (length cells.now) }
+        requires small { length cells.now < 2 ^ 32 }
+        ensures { Begins count (number_in elem self.now cells.now) result }
+    {
+        match self {
+            Operand::Number(n) => [*n; MOST],
+            Operand::Elements(walk) => numbers_at(cells, elem, walk.next as u32, count),
+        }
+    }
+
+    /// The flags of the first bytes of the next `count` elements. A number has no flag that is set.
+    pub fn flags(&self, cells: &Spad, elem: Elem, count: u32) -> [bool; MOST]
+        requires few { count ≤ 16 }
+        requires inside { EndsBelow elem self.now count (length cells.now) }
+        requires small { length cells.now < 2 ^ 32 }
+        ensures { Begins count (flag_in elem self.now cells.now) result }
+    {
+        match self {
+            Operand::Number(_) => [false; MOST],
+            Operand::Elements(walk) => flags_at(cells, elem, walk.next as u32, count),
+        }
+    }
+
+    /// Goes on by a whole group.
+    pub fn go_on(&mut self)
+        requires { CanGoOn self.old }
+        ensures { self.new ≡ a_group_on self.old }
+    {
+        if let Operand::Elements(walk) = self {
+            walk.go_on();
+        }
+    }
+
+    /// Goes on to the beginning of the next row.
+    pub fn next_row(&mut self)
+        requires { CanTurn self.old }
+        ensures { self.new ≡ at_next_row self.old }
+    {
+        if let Operand::Elements(walk) = self {
+            walk.next_row();
+        }
+    }
+}
