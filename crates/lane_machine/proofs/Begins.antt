@@ -26,6 +26,11 @@ module _ {A : Type 0} (item : ℕ → A) where
         ];
   }
 
+  -- those behind stay
+  pub left_kept : (i count : ℕ) (items : List A) (new : A) → ((k : ℕ) → i ≤ k → k < count → slice_get items k ≡ Some (item k)) → (k : ℕ) → i + 1 ≤ k → k < count → slice_get (set items i new) k ≡ Some (item k)
+  left_kept i count items new left k from below =
+      same_slot new items (set items i new) k (length-set items i new) (get_or-set_other items i k new new (omega arith)) ∙ left k (omega arith) below
+
   -- 16 times the same
   pub begins_all : (count : ℕ) (x : A) → count ≤ 16 → ((k : ℕ) → k < count → x ≡ item k) → Begins count item (replicate 16 x)
   begins_all count x few same = record {

@@ -1,7 +1,8 @@
 -- What the next elements of a row get, one after another.
 use Rattle.std.proofs.Common.{◌≡◌, ℕ, zero, suc, ◌+◌, ◌^◌, ◌<◌, ◌≤◌, inl, inr, ap, sym, ◌∙◌, refl, subst, arith, List, [], ◌++◌, length, true, false, ℤ, pos, negsuc, neg_ℤ, ◌+ℤ◌, w64, get_or, to_z, of_z}
 use mir.Val.{SFits}
-use Rattle.std.specs.Prelude.{◌≤ℤ◌}
+use Rattle.std.proofs.lemmas.Option.{get_or_from_slice_get}
+use Rattle.std.specs.Prelude.{slice_get, Some, ◌≤ℤ◌}
 use Rattle.std.specs.Int.{w128}
 use Rattle.std.proofs.lemmas.Int.{ints, to_z-of_z}
 use Rattle.std.proofs.lemmas.Bool.{cases_Bool, cond-true, cond-false}
@@ -25,7 +26,6 @@ use Rattle.venice_isa.proofs.Results.{result_in_type}
 use Rattle.ven_base.proofs.Wrapped.{IsElement-wrapped}
 use Rattle.lane_machine.specs.Current.{IsBounded}
 use Rattle.lane_machine.specs.Group.{Begins}
-use Rattle.lane_machine.proofs.Begins.{begins_at}
 use Rattle.lane_machine.proofs.Elements.{overwritten-append, overwritten_by_itself}
 
 -- ---- results
@@ -86,9 +86,12 @@ element_fits elem (pos n) in_type = let bounds = element_bounded elem (pos n) in
 element_fits elem (negsuc n) in_type = let bounds = element_bounded elem (negsuc n) in_type in record { sfits = omega (arith, ints, bounds.0) }
 
 -- an item of a list of numbers of a type
+pub number_read_at : (elem : Elem) (items : List ℤ) (k : ℕ) (n : ℤ) → slice_get items k ≡ Some n → IsElement elem n → to_z w64 (of_z w64 (get_or items k (pos 0))) ≡ n
+number_read_at elem items k n there in_type =
+    ap (λ n. to_z w64 (of_z w64 n)) (get_or_from_slice_get items k n (pos 0) there) ∙ to_z-of_z w64 n (element_fits elem n in_type)
+
 pub number_read : (elem : Elem) (item : ℕ → ℤ) (count : ℕ) (items : List ℤ) (k : ℕ) → Begins count item items → k < count → IsElement elem (item k) → to_z w64 (of_z w64 (get_or items k (pos 0))) ≡ item k
-number_read elem item count items k begins below in_type =
-    ap (λ n. to_z w64 (of_z w64 n)) (begins_at item count items (pos 0) k begins below) ∙ to_z-of_z w64 (item k) (element_fits elem (item k) in_type)
+number_read elem item count items k begins below in_type = number_read_at elem items k (item k) (begins.each k below) in_type
 
 -- ---- writes
 

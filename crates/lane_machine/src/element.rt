@@ -16,36 +16,34 @@ use ven_base::Elem;
 /// The most elements that a beat takes: four lanes of 4 bytes, in elements of a byte.
 pub const MOST: usize = 16;
 
-/// The numbers of so many elements, the first of which begins at a place.
-pub fn numbers_at(cells: &Spad, elem: Elem, place: u32, count: u32) -> [i64; MOST]
+/// Reads the numbers of so many elements, the first of which begins at a place.
+pub fn read_numbers(cells: &Spad, elem: Elem, place: u32, count: u32, numbers: &mut [i64; MOST])
     requires few { count ≤ 16 }
     requires inside { place + count * size_of elem ≤ length cells.now }
     requires small { length cells.now < 2 ^ 32 }
-    ensures { Begins count (λ k. number_at elem cells.now (place + k * size_of elem)) result }
+    ensures { Begins count (λ k. number_at elem cells.now (place + k * size_of elem)) numbers.new }
 {
     match elem {
-        Elem::U8 | Elem::I8 => numbers_of::<OneByte>(cells, elem, place, count),
-        Elem::U16 | Elem::I16 => numbers_of::<TwoBytes>(cells, elem, place, count),
-        Elem::U32 | Elem::I32 => numbers_of::<FourBytes>(cells, elem, place, count),
+        Elem::U8 | Elem::I8 => read_wide::<OneByte>(cells, elem, place, count, numbers),
+        Elem::U16 | Elem::I16 => read_wide::<TwoBytes>(cells, elem, place, count, numbers),
+        Elem::U32 | Elem::I32 => read_wide::<FourBytes>(cells, elem, place, count, numbers),
     }
 }
 
-/// The numbers of elements of one width.
-fn numbers_of<W: Width>(cells: &Spad, elem: Elem, place: u32, count: u32) -> [i64; MOST]
+/// Reads the numbers of elements of one width.
+fn read_wide<W: Width>(cells: &Spad, elem: Elem, place: u32, count: u32, numbers: &mut [i64; MOST])
     requires width { W.SIZE ≡ size_of elem }
     requires few { count ≤ 16 }
     requires inside { place + count * size_of elem ≤ length cells.now }
     requires small { length cells.now < 2 ^ 32 }
-    ensures { Begins count (λ k. number_at elem cells.now (place + k * size_of elem)) result }
+    ensures { Begins count (λ k. number_at elem cells.now (place + k * size_of elem)) numbers.new }
 {
     let (end, modulus) = (elem.end(), elem.modulus());
-    let mut numbers = [0; MOST];
     let mut at = place;
-    for i in 0..count {
-        numbers[i as usize] = number_of(W::bits(cells, at), end, modulus);
+    for i in 0..count as usize {
+        numbers[i] = number_of(W::bits(cells, at), end, modulus);
         at += W::SIZE;
     }
-    numbers
 }
 
 /// The flags of the first bytes of so many elements, the first of which begins at a place.

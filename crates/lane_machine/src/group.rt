@@ -42,29 +42,30 @@ pub fn beat(cells: &mut Spad, work: &VecWork, current: &Current, count: u32) -> 
     if work.kind.op.is_conditional() {
         move_flagged(cells, work, current, count);
     } else {
-        let results = results(cells, work, current, count);
+        let mut results = [0; MOST];
+        work_out(cells, work, current, count, &mut results);
         put_all(cells, work, current, count, &results);
     }
     0
 }
 
-/// The results for the next `count` elements, from the cells as they are.
-fn results(cells: &Spad, work: &VecWork, current: &Current, count: u32) -> [i64; MOST]
+/// Works out the results for the next `count` elements, from the cells as they are.
+fn work_out(cells: &Spad, work: &VecWork, current: &Current, count: u32, results: &mut [i64; MOST])
     requires placed { IsPlaced work.now current.now }
     requires in_row { current.now.first + count ≤ work.now.vl }
     requires some { 0 < count }
     requires few { count ≤ 16 }
     requires inside { IsInside work.now (length cells.now) }
     requires small { length cells.now < 2 ^ 32 }
-    ensures { Begins count (results_from work.now cells.now current.now.row current.now.first) result }
+    ensures { Begins count (results_from work.now cells.now current.now.row current.now.first) results.new }
 {
-    let a = current.a.numbers(cells, work.kind.from, count);
-    let b = current.b.numbers(cells, work.kind.elem, count);
-    let mut results = [0; MOST];
+    let kind = work.kind;
+    let mut numbers = [0; MOST];
+    current.a.read(cells, kind.from, count, results);
+    current.b.read(cells, kind.elem, count, &mut numbers);
     for i in 0..count as usize {
-        results[i] = result_of(work.kind, a[i], b[i]);
+        results[i] = result_of(kind, results[i], numbers[i]);
     }
-    results
 }
 
 /// Moves A's elements to those of the next elements where the flag of B's first byte is set.
@@ -79,7 +80,8 @@ fn move_flagged(cells: &mut Spad, work: &VecWork, current: &Current, count: u32)
     ensures { cells.new ≡ overwritten cells.old (place_in (destination work.now) current.now.row current.now.first)
         (new_elements work.now cells.old current.now.row current.now.first count) }
 {
-    let numbers = current.a.numbers(cells, work.kind.from, count);
+    let mut numbers = [0; MOST];
+    current.a.read(cells, work.kind.from, count, &mut numbers);
     let flags = current.b.flags(cells, work.kind.elem, count);
     put_results(cells, work, current, count, &numbers, &flags);
 }
@@ -182,7 +184,8 @@ fn sum_of(cells: &Spad, work: &VecWork, current: &Current, count: u32) -> i64
     ensures value { result ≡ sum_of_results work.now cells.now current.now.row current.now.first count }
     ensures bounded { IsBounded count result }
 {
-    let results = results(cells, work, current, count);
+    let mut results = [0; MOST];
+    work_out(cells, work, current, count, &mut results);
     let mut sum = 0;
     for i in 0..count as usize {
         sum += results[i];

@@ -1,7 +1,7 @@
 //! Where the numbers of A and of B come from.
 ghost use Rattle.std.specs.Prelude.{◌≡◌, ◌+◌, ◌<◌, ◌≤◌, ◌^◌, length};
 
-use crate::element::{MOST, flags_at, numbers_at};
+use crate::element::{MOST, flags_at, read_numbers};
 use spad_store::Spad;
 use ven_base::Elem;
 use venice_isa::Walk;
@@ -18,16 +18,18 @@ impl Operand {
     ghost use Rattle.lane_machine.specs.Operand.{EndsBelow, CanGoOn, CanTurn, number_in, flag_in, a_group_on, at_next_row};
     ghost use Rattle.lane_machine.specs.Group.{Begins};
 
-    /// The numbers for the next `count` elements.
-    pub fn numbers(&self, cells: &Spad, elem: Elem, count: u32) -> [i64; MOST]
+    /// Reads the numbers for the next `count` elements.
+    pub fn read(&self, cells: &Spad, elem: Elem, count: u32, numbers: &mut [i64; MOST])
         requires few { count ≤ 16 }
         requires inside { EndsBelow elem self.now count (length cells.now) }
         requires small { length cells.now < 2 ^ 32 }
-        ensures { Begins count (number_in elem self.now cells.now) result }
+        ensures { Begins count (number_in elem self.now cells.now) numbers.new }
     {
         match self {
-            Operand::Number(n) => [*n; MOST],
-            Operand::Elements(walk) => numbers_at(cells, elem, walk.next as u32, count),
+            Operand::Number(n) => *numbers = [*n; MOST],
+            Operand::Elements(walk) => {
+                read_numbers(cells, elem, walk.next as u32, count, numbers);
+            }
         }
     }
 

@@ -5,8 +5,8 @@ use Rattle.lane_machine.proofs.Begins.{begins_same}
 use Rattle.lane_machine.proofs.Places.{a_ends, b_ends, a_number, b_flag, conditional_result}
 use Rattle.lane_machine.proofs.group.move_flagged.Goals as goal
 
-pub numbers-numbers-requires-clause-inside : goal.numbers-numbers-requires-clause-inside
-numbers-numbers-requires-clause-inside c =
+pub read-requires-clause-inside : goal.read-requires-clause-inside
+read-requires-clause-inside c =
     a_ends c.args.work.now c.args.current.now c.requires.placed (length c.args.cells.now) c.requires.inside c.args.count c.requires.some c.requires.in_row
 
 pub flags-flags-requires-clause-inside : goal.flags-flags-requires-clause-inside
@@ -18,7 +18,7 @@ put_results-requires-clause-results c =
     let work = c.args.work.now in
     let current = c.args.current.now in
     let cells = c.args.cells.now in
-    begins_same (number_in work.kind.from current.a cells) (results_from work cells current.row current.first) c.args.count c.numbers-numbers.result c.numbers-numbers.ensures
+    begins_same (number_in work.kind.from current.a cells) (results_from work cells current.row current.first) c.args.count c.read.new.numbers c.read.ensures
     (λ k below. a_number work current c.requires.placed cells k ∙ sym (conditional_result work c.requires.conditional cells current.row (current.first + k)))
 
 pub put_results-requires-clause-written : goal.put_results-requires-clause-written

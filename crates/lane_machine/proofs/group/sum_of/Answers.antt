@@ -14,7 +14,7 @@ overflow_add-sum c =
     let sum : ℤ = to_z w64 c.loop-i.sum-bits in
     let n = result_at work cells current.row (current.first + i) in
     let in_type = result_at_in_type work cells current.row (current.first + i) in
-    let read = number_read work.kind.elem (results_from work cells current.row current.first) c.args.count c.results-results.result i c.results-results.ensures c.loop-i-test.true in_type in
+    let read = number_read work.kind.elem (results_from work cells current.row current.first) c.args.count c.work_out.new.results i c.work_out.ensures c.loop-i-test.true in_type in
     let next = summed_more work cells current.row current.first i sum n c.loop-i.invariant refl in_type in
     omega (arith, ints, read, next.bounded.from_least, next.bounded.to_greatest, c.requires.few)
 
@@ -27,6 +27,6 @@ loop-i-preserved c =
     let sum : ℤ = to_z w64 c.loop-i.sum-bits in
     let n = result_at work cells current.row (current.first + i) in
     let in_type = result_at_in_type work cells current.row (current.first + i) in
-    let read = number_read work.kind.elem (results_from work cells current.row current.first) c.args.count c.results-results.result i c.results-results.ensures c.loop-i-test.true in_type in
+    let read = number_read work.kind.elem (results_from work cells current.row current.first) c.args.count c.work_out.new.results i c.work_out.ensures c.loop-i-test.true in_type in
     let next = summed_more work cells current.row current.first i sum n c.loop-i.invariant refl in_type in
     subst (IsSummed work cells current.row current.first (i + 1)) (omega (arith, ints, read, next.bounded.from_least, next.bounded.to_greatest, c.requires.few)) next

@@ -2,7 +2,7 @@ use Rattle.std.proofs.Common.{◌≡◌, ◌+◌, ◌*◌}
 use Rattle.ven_base.specs.Elem.{size_of}
 use Rattle.venice_isa.specs.Element.{number_at}
 use Rattle.lane_machine.specs.Group.{Begins}
-use Rattle.lane_machine.proofs.element.numbers_of.Given as goal
+use Rattle.lane_machine.proofs.element.read_wide.Given as goal
 
 abbrev pub invariant-loop-i : goal.invariant-loop-i
 invariant-loop-i g l = record {

@@ -8,26 +8,38 @@ use Rattle.venice_isa.specs.Whole.{result_at, number_of_a, number_of_b}
 use Rattle.venice_isa.proofs.Wholes.{result_without_b}
 use Rattle.lane_machine.specs.Operand.{number_in}
 use Rattle.lane_machine.specs.Group.{results_from}
-use Rattle.lane_machine.proofs.Begins.{begins_more}
+use Rattle.lane_machine.proofs.Begins.{begins_none, begins_more, left_kept}
 use Rattle.lane_machine.proofs.Places.{a_ends, b_ends, a_number, b_number, a_in_type, b_in_type}
-use Rattle.lane_machine.proofs.Groups.{number_read}
-use Rattle.lane_machine.proofs.group.results.Goals as goal
+use Rattle.lane_machine.proofs.Groups.{number_read, number_read_at}
+use Rattle.lane_machine.proofs.group.work_out.Goals as goal
 
-pub numbers-a-requires-clause-inside : goal.numbers-a-requires-clause-inside
-numbers-a-requires-clause-inside c =
+pub read-requires-clause-inside : goal.read-requires-clause-inside
+read-requires-clause-inside c =
     a_ends c.args.work.now c.args.current.now c.requires.placed (length c.args.cells.now) c.requires.inside c.args.count c.requires.some c.requires.in_row
 
-pub numbers-b-requires-clause-inside : goal.numbers-b-requires-clause-inside
-numbers-b-requires-clause-inside c =
+pub read-requires-2-clause-inside : goal.read-requires-2-clause-inside
+read-requires-2-clause-inside c =
     b_ends c.args.work.now c.args.current.now c.requires.placed (length c.args.cells.now) c.requires.inside c.args.count c.requires.some c.requires.in_row
+
+pub loop-i-init : goal.loop-i-init
+loop-i-init c =
+    let work = c.args.work.now in
+    let current = c.args.current.now in
+    let read = c.read.ensures in
+    record {
+      done = begins_none (results_from work c.args.cells.now current.row current.first) c.read.new.numbers read.long;
+      left = λ k from below. read.each k below;
+    }
 
 pub result_of-requires-clause-a_in_type : goal.result_of-requires-clause-a_in_type
 result_of-requires-clause-a_in_type c =
     let from = c.args.work.now.kind.from in
     let cells = c.args.cells.now in
     let current = c.args.current.now in
-    let in_type = a_in_type c.args.work.now current c.requires.placed cells c.loop-i.i in
-    subst (IsElement from) (sym (number_read from (number_in from current.a cells) c.args.count c.numbers-a.result c.loop-i.i c.numbers-a.ensures c.loop-i-test.true in_type)) in_type
+    let i = c.loop-i.i in
+    let loop = c.loop-i.invariant in
+    let in_type = a_in_type c.args.work.now current c.requires.placed cells i in
+    subst (IsElement from) (sym (number_read_at from c.loop-i.results i (number_in from current.a cells i) (loop.left i (omega arith) c.loop-i-test.true) in_type)) in_type
 
 pub result_of-requires-clause-b_in_type : goal.result_of-requires-clause-b_in_type
 result_of-requires-clause-b_in_type c =
@@ -35,7 +47,7 @@ result_of-requires-clause-b_in_type c =
     let cells = c.args.cells.now in
     let current = c.args.current.now in
     let in_type = b_in_type c.args.work.now current c.requires.placed cells c.loop-i.i in
-    subst (IsElement elem) (sym (number_read elem (number_in elem current.b cells) c.args.count c.numbers-b.result c.loop-i.i c.numbers-b.ensures c.loop-i-test.true in_type)) in_type
+    subst (IsElement elem) (sym (number_read elem (number_in elem current.b cells) c.args.count c.read-2.new.numbers c.loop-i.i c.read-2.ensures c.loop-i-test.true in_type)) in_type
 
 pub loop-i-preserved : goal.loop-i-preserved
 unfolding result_at
@@ -44,14 +56,15 @@ loop-i-preserved c =
     let cells = c.args.cells.now in
     let current = c.args.current.now in
     let i = c.loop-i.i in
+    let loop = c.loop-i.invariant in
     let from = work.kind.from in
     let elem = work.kind.elem in
     let a = number_of_a work cells current.row (current.first + i) in
     let b = number_of_b work cells current.row (current.first + i) in
-    let passed_a : ℤ = to_z w64 (of_z w64 (get_or c.numbers-a.result i (pos 0))) in
-    let passed_b : ℤ = to_z w64 (of_z w64 (get_or c.numbers-b.result i (pos 0))) in
-    let a_is : passed_a ≡ a = number_read from (number_in from current.a cells) c.args.count c.numbers-a.result i c.numbers-a.ensures c.loop-i-test.true (a_in_type work current c.requires.placed cells i) ∙ a_number work current c.requires.placed cells i in
-    let b_is : passed_b ≡ number_in elem current.b cells i = number_read elem (number_in elem current.b cells) c.args.count c.numbers-b.result i c.numbers-b.ensures c.loop-i-test.true (b_in_type work current c.requires.placed cells i) in
+    let passed_a : ℤ = to_z w64 (of_z w64 (get_or c.loop-i.results i (pos 0))) in
+    let passed_b : ℤ = to_z w64 (of_z w64 (get_or c.read-2.new.numbers i (pos 0))) in
+    let a_is : passed_a ≡ a = number_read_at from c.loop-i.results i (number_in from current.a cells i) (loop.left i (omega arith) c.loop-i-test.true) (a_in_type work current c.requires.placed cells i) ∙ a_number work current c.requires.placed cells i in
+    let b_is : passed_b ≡ number_in elem current.b cells i = number_read elem (number_in elem current.b cells) c.args.count c.read-2.new.numbers i c.read-2.ensures c.loop-i-test.true (b_in_type work current c.requires.placed cells i) in
     let result : to_z w64 (of_z w64 c.result_of.result) ≡ result_at work cells current.row (current.first + i) =
     to_z-of_z w64 c.result_of.result (record { sfits = c.result_of.type_inv })
     ∙ c.result_of.ensures.value
@@ -60,4 +73,7 @@ loop-i-preserved c =
       | inl used ↦ ap (result_of work.kind a) (b_is ∙ b_number work current c.requires.placed used cells i)
       | inr unused ↦ result_without_b work.kind a b passed_b unused
     ] in
-    begins_more (results_from work cells current.row current.first) i c.loop-i.results _ (omega arith) c.loop-i.invariant result
+    record {
+      done = begins_more (results_from work cells current.row current.first) i c.loop-i.results _ (omega arith) loop.done result;
+      left = left_kept (number_in from current.a cells) i c.args.count c.loop-i.results _ loop.left;
+    }

@@ -6,7 +6,7 @@ use Rattle.venice_isa.specs.Cell.{byte_of, part}
 use Rattle.venice_isa.specs.Element.{little_endian, number_at}
 use Rattle.lane_machine.proofs.Elements.{element_in}
 use Rattle.lane_machine.proofs.Begins.{begins_more}
-use Rattle.lane_machine.proofs.element.numbers_of.Goals as goal
+use Rattle.lane_machine.proofs.element.read_wide.Goals as goal
 
 pub bits-requires-clause-inside : goal.bits-requires-clause-inside
 bits-requires-clause-inside g c =
