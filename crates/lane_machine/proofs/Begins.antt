@@ -4,7 +4,7 @@ use Rattle.std.specs.Prelude.{slice_get}
 use Rattle.std.proofs.lemmas.Bool.{cases_eq}
 use Rattle.std.proofs.lemmas.List.{length-set, get_or-set_same, get_or-set_other, length-replicate, get_or-replicate}
 use Rattle.std.proofs.lemmas.Option.{slice_get-get_or, get_or_from_slice_get}
-use Rattle.venice_isa.proofs.OneBeat.{same_slot}
+use Rattle.venice_isa.proofs.Wholes.{same_slot}
 use Rattle.lane_machine.specs.Group.{Begins}
 
 module _ {A : Type 0} (item : ℕ → A) where
