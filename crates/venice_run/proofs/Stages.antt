@@ -170,23 +170,13 @@ module _ (held : Option Held) (program inputs : List ℕ) where
     no_inputs enough InputsForm given =
         let q = asking (Run lanes spad) (Some reads.0) (Some given.0) in
         let has = has_program (Some given.0) in
+        let none : (addition : Addition) × HasProgram q addition × ((operands : Operands) → ¬ HasInputs q addition operands) = (denoted a, has, not_inputs q given.0 (denoted a) refl given.2) in
         record {
           request = q;
           asked = refl;
           program_shown = reads.1;
           inputs_shown = given.1;
-          comes = inl (
-              inr (
-                is_loaded q Program reads.0 refl,
-                inr (
-                  program_read q (denoted a) has,
-                  inr (
-                    scratchpad_holds q (denoted a) has enough,
-                    inr (is_loaded q Inputs given.0 refl, inl (refl, (denoted a, has, not_inputs q given.0 (denoted a) refl given.2))),
-                  ),
-                ),
-              )
-              );
+          comes = inl (inr (is_loaded q Program reads.0 refl, inr (program_read q (denoted a) has, inr (scratchpad_holds q (denoted a) has enough, inr (is_loaded q Inputs given.0 refl, inl (refl, none))))));
         }
     no_inputs enough Usage given = absurd given
     no_inputs enough ProgramForm given = absurd given
