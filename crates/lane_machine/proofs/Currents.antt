@@ -21,9 +21,6 @@ use Rattle.lane_machine.specs.Group.{IsInside}
 use Rattle.lane_machine.proofs.Operands.{operand_on, operand_turned, operand_can_go, operand_can_turn}
 use Rattle.lane_machine.proofs.Places.{a_end, b_end, dst_end, sum_end}
 
-pub few_in_group : (kind : VecKind) (lanes : ℕ) → lanes ≤ 4 → lane_group kind lanes ≤ 16
-few_in_group kind lanes few = omega (arith, div-le_self (4 * lanes) (max (size_of kind.elem) (size_of kind.from)))
-
 pub size_at_most : (elem : Elem) → size_of elem ≤ 4
 size_at_most U8 = lit≤ tt
 size_at_most I8 = lit≤ tt

@@ -27,10 +27,6 @@ high_number elem bits below high = IsWrapped-is elem (pos bits) (pos bits -ℤ p
 
 -- ---- lists
 
--- a part from a place on begins with the item there
-pub part_more : {A : Type 0} (d : A) (items : List A) (place count : ℕ) → place < length items → part items place (suc count) ≡ get_or items place d ∷ part items (place + 1) count
-part_more d items place count inside = ap (take (suc count)) (drop_more items place d inside)
-
 -- to write two lists one behind the other is to write both
 pub overwritten-append : {A : Type 0} (items : List A) (place : ℕ) (xs ys : List A) → place + length xs ≤ length items → overwritten (overwritten items place xs) (place + length xs) ys ≡ overwritten items place (xs ++ ys)
 overwritten-append items place xs ys inside =

@@ -71,9 +71,6 @@ pub record IsSummed (work : VecWork) (cells : List Cell) (r first count : ℕ) (
   pub is : sum ≡ sum_of_results work cells r first count
   pub bounded : IsBounded count sum
 
-pub nothing_summed : (work : VecWork) (cells : List Cell) (r first : ℕ) → IsSummed work cells r first 0 (pos 0)
-nothing_summed work cells r first = record { is = refl; bounded = record { from_least = omega (arith, ints); to_greatest = omega (arith, ints) } }
-
 pub summed_more : (work : VecWork) (cells : List Cell) (r first count : ℕ) (sum n : ℤ) → IsSummed work cells r first count sum → n ≡ result_at work cells r (first + count) → IsElement work.kind.elem n → IsSummed work cells r first (count + 1) (sum +ℤ n)
 summed_more work cells r first count sum n summed is in_type = record {
   is = omega (arith, ints, summed.is, is, sum_on work cells r first count 1);
@@ -111,9 +108,6 @@ new_elements_more work cells r first (suc count) =
     ∙ ap (λ rest. new_element work cells r first ++ rest) (new_elements_more work cells r (first + 1) count)
     ∙ sym (append_assoc (new_element work cells r first) (new_elements work cells r (first + 1) count) (new_element work cells r ((first + 1) + count)))
     ∙ ap (λ j. new_elements work cells r first (suc count) ++ new_element work cells r j) there
-
-pub nothing_put : (work : VecWork) (before : List Cell) (r first : ℕ) → IsPut work before before r first 0
-nothing_put work before r first = record { same_length = refl; is = sym (overwritten_nothing before (place_in (destination work) r first) [] refl) }
 
 module _ (work : VecWork) (no_sum : work.kind.acc ≡ false) (before cells : List Cell) (inside : LiesBelow (destination work) (length before)) (r first i : ℕ) (row : r < work.rows) (column : first + i < work.vl) (so_far : IsPut work before cells r first i) where
   place : ℕ

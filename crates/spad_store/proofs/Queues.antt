@@ -23,11 +23,6 @@ pub some_first : {X : Type 0} (xs : List X) → 0 < length xs → (x : X) × (sl
 some_first [] some = absurd (omega arith)
 some_first (x ∷ xs) some = (x, refl)
 
--- an item that comes in last leaves the first one first
-pub first_kept : {X : Type 0} (xs : List X) (x : X) → 0 < length xs → slice_get (xs ++ x ∷ []) 0 ≡ slice_get xs 0
-first_kept [] x some = absurd (omega arith)
-first_kept (y ∷ xs) x some = refl
-
 module _ {Work Current : Type 0} (IsAt : Work → Current → Type 0) where
   -- what is kept is of the first work
   pub front_at : (works : List Work) (work : Work) (current : Current) → slice_get works 0 ≡ Some work → IsFront IsAt works (Some current) → IsAt work current
@@ -37,11 +32,6 @@ module _ {Work Current : Type 0} (IsAt : Work → Current → Type 0) where
   pub at_front : (works : List Work) (work : Work) (current : Current) → slice_get works 0 ≡ Some work → IsAt work current → IsFront IsAt works (Some current)
   at_front [] work current first at = cc
   at_front (x ∷ works) work current first at = subst (λ slot. IfSome slot (λ w. IsAt w current)) (sym first) at
-
-  -- where nothing is kept, the queue is empty
-  pub none_kept : (works : List Work) → IsFront IsAt works None → works ≡ []
-  none_kept [] none = refl
-  none_kept (work ∷ works) none = absurd none
 
   -- behind others
   pub front_pushed : (works : List Work) (work : Work) (current : Option Current) → 0 < length works → IsFront IsAt works current → IsFront IsAt (works ++ work ∷ []) current
@@ -59,10 +49,6 @@ module _ {Work Current : Type 0} (IsAt : Work → Current → Type 0) where
 module _ {Work Progress : Type 0} (has_counts : Work → Type 0) (places : ℕ) (beats : Work → ℕ) (done : Progress → ℕ) (not_begun : Progress) where
   abbrev Queue : List Work → Progress → Type 0
   Queue = IsQueue has_counts places beats done not_begun
-
-  -- a new queue is empty
-  pub queue_begins : 0 < places → Queue [] not_begun
-  queue_begins some = record { some = some; within = omega arith; counts = λ k d below. absurd (omega arith); front = tt; idle = λ none. refl }
 
   -- a work comes in last
   pub queue_pushed : (works : List Work) (work : Work) (progress : Progress) → Queue works progress → length works < places → has_counts work → done not_begun < beats work → Queue (works ++ work ∷ []) progress

@@ -79,11 +79,8 @@ module _ (rows items group : ℕ) (some_rows : 0 < rows) (some_items : 0 < items
       omega arith
 
   module _ (done row first : ℕ) (come : HasCome rows items group done row first) where
-    pub come_in_rows : row < rows
+    come_in_rows : row < rows
     come_in_rows = omega (arith, come.row_is, row_below items group some_items some rows done come.more)
-
-    pub come_in_row : first < items
-    come_in_row = omega (arith, come.first_is, first_below items group some_items some done)
 
     pub come_count : min group (items - first) ≡ (group_at items group done).count
     come_count = omega (arith, come.first_is)

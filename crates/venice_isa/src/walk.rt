@@ -48,3 +48,26 @@ impl Walk {
         self.next = self.row;
     }
 }
+
+#[cfg(test)]
+mod tests {
+    use super::*;
+
+    #[test]
+    fn a_walk_goes_by_groups_and_rows(rt: HostRuntime) {
+        let region = Region {
+            place: 10,
+            step: 100,
+            size: 2,
+            rows: 2,
+            columns: 5,
+        };
+        let mut walk = Walk::begin(region, 2);
+        assert_eq!(rt; (walk.row, walk.next), (10, 10));
+        walk.go_on();
+        walk.go_on();
+        assert_eq!(rt; (walk.row, walk.next), (10, 18));
+        walk.next_row();
+        assert_eq!(rt; (walk.row, walk.next), (110, 110));
+    }
+}
