@@ -47,6 +47,9 @@ fn status_of<F: Files, S: Sink>(
     ensures reply { IfOk words (λ given. ¬ Rose (F.load_faults files.old) (F.load_faults files.new) → ¬ Rose (S.faults out.old) (S.faults out.new) → result ≢ 10
         → TakesReply (texts_of given.items) (F.held files.old) (F.held files.new) (S.taken out.old) (S.taken out.new) result) }
 
+    // The status for no words comes only then.
+    ensures given { IfOk words (λ _. result ≢ 15) }
+
     // Every status but 8, 9 and 10 is that of a reply, and comes only where nothing outside failed.
     ensures quiet { IfOk words (λ given. result ≢ 8 → result ≢ 9 → result ≢ 10
         → (F.load_faults files.new ≡ F.load_faults files.old) × (S.faults out.new ≡ S.faults out.old)

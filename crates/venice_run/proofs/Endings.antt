@@ -1,5 +1,5 @@
 -- From what is meant and how much of it is put to how the call ends.
-use Rattle.std.proofs.Common.{◌≡◌, ◌≢◌, ◌⊎◌, inl, inr, ℕ, ◌<◌, List, [], ◌∷◌, length, get_or, Option, Some, Result, Ok, Err, Vec, refl, sym, ap, subst, ◌∙◌, arith}
+use Rattle.std.proofs.Common.{◌≡◌, ◌≢◌, ◌⊎◌, inl, inr, ℕ, ◌<◌, ◌≤◌, List, [], ◌∷◌, length, get_or, Option, Some, Result, Ok, Err, Vec, refl, sym, ap, subst, ◌∙◌, arith}
 use Rattle.std.specs.Prelude.{IsErrOf, String, slice_index_or}
 use Rattle.std.specs.String.{string_bytes}
 use Rattle.std.specs.declared.alloc.Global.{Global}
@@ -155,28 +155,40 @@ module _ (words : List (List ℕ)) (held : Option Held) (loads now : ℕ) (taken
       by (PutsPart is part rose) = absurd (omega arith)
       by (PutsLines is lines kept) = absurd (omega arith)
 
-  means_nine : (status : ℕ) (text : List ℕ) → Means words held loads now status text → status ≡ 9 → ⊥
-  means_nine status text (Replies still (NotUsed none same s t)) nine = absurd (omega arith)
-  means_nine status text (Replies still (Refused q refusal asks first same s t)) nine = never refusal (sym s ∙ nine)
+  -- the statuses of refusals, and of all that is meant
+  refusal_status : (r : Refusal) → (status_of r ≤ 8) ⊎ (status_of r ≡ 10)
+  refusal_status Usage = inl (omega arith)
+  refusal_status File = inl (omega arith)
+  refusal_status Memory = inr refl
+  refusal_status ProgramForm = inl (omega arith)
+  refusal_status InputsForm = inl (omega arith)
+  refusal_status FileMissing = inl (omega arith)
+  refusal_status (Scratchpad need have) = inl (omega arith)
+
+  means_status : (status : ℕ) (text : List ℕ) → Means words held loads now status text → (status ≤ 8) ⊎ (status ≡ 10)
+  means_status status text (Replies still (NotUsed none same s t)) = inl (omega arith)
+  means_status status text (Replies still (Refused q refusal asks first same s t)) = subst (λ (n : ℕ). (n ≤ 8) ⊎ (n ≡ 10)) (sym s) (refusal_status refusal)
+  means_status status text (Replies still (Done q asks passes prints same s)) = inl (omega arith)
+  means_status status text (LacksFile rose s t) = inl (omega arith)
+  means_status status text (LacksMemory s t) = inr s
+
+  not_meant : (n : ℕ) → 8 < n → n ≢ 10 → (status : ℕ) (text : List ℕ) → Means words held loads now status text → status ≢ n
+  not_meant n high other status text means is = elim (means_status status text means) [ inl low ↦ omega arith | inr ten ↦ other (sym is ∙ ten) ]
+
+  pub not_fifteen : (result : ℕ) → Ends words held loads now taken taken_now faults faults_now result → result ≢ 15
+  not_fifteen result ends fifteen = by ends.puts
     where
-      never : (r : Refusal) → status_of r ≡ 9 → ⊥
-      never Usage e = omega arith
-      never File e = omega arith
-      never Memory e = omega arith
-      never ProgramForm e = omega arith
-      never InputsForm e = omega arith
-      never FileMissing e = omega arith
-      never (Scratchpad need have) e = omega arith
-  means_nine status text (Replies still (Done q asks passes prints same s)) nine = omega arith
-  means_nine status text (LacksFile rose s t) nine = omega arith
-  means_nine status text (LacksMemory s t) nine = omega arith
+      by : Puts taken taken_now faults faults_now ends.status ends.text result → ⊥
+      by (PutsWhole is takes kept) = not_meant 15 (omega arith) (λ e. omega arith) ends.status ends.text ends.means (sym is ∙ fifteen)
+      by (PutsPart is part rose) = omega arith
+      by (PutsLines is lines kept) = omega arith
 
   pub put : (result : ℕ) → Ends words held loads now taken taken_now faults faults_now result → result ≡ 9
       → Rose faults faults_now × TakesPartOfAny words held loads now taken taken_now
   put result ends nine = by ends.puts
     where
       by : Puts taken taken_now faults faults_now ends.status ends.text result → Rose faults faults_now × TakesPartOfAny words held loads now taken taken_now
-      by (PutsWhole is takes kept) = absurd (means_nine ends.status ends.text ends.means (sym is ∙ nine))
+      by (PutsWhole is takes kept) = absurd (not_meant 9 (omega arith) (λ e. omega arith) ends.status ends.text ends.means (sym is ∙ nine))
       by (PutsPart is part rose) = (rose, record { status = ends.status; text = ends.text; means = ends.means; part = part })
       by (PutsLines is lines kept) = absurd (omega arith)
 

@@ -3,7 +3,8 @@
 //! `venice(alloc, &words, &mut files, &mut out)` takes the words, any `Files` and any `Sink`, does what the words ask, puts
 //! the reply and answers the status. Its clause `reply` says which reply that is: the first refusal that applies, or the
 //! printed sums. `quiet` says that a status other than 8, 9 and 10 hides no fault, `file`, `put` and `memory` what
-//! those three rest on and what stands after them, `held` and `saves` that no file changes.
+//! those three rest on and what stands after them, `never` that status 15 is left to the program, `held` and `saves` that no
+//! file changes.
 //!
 //! `read_words` reads the words, `Refusal` has each refusal's status and line, and `one_tile` is the list of issues by which
 //! the sums are made; `one_tile_adds` says what the list does. docs/FORMATS.md has the words, the files, the printed

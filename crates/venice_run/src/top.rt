@@ -52,6 +52,9 @@ pub fn venice<F: Files, S: Sink>(alloc: Global, words: &[String], files: &mut F,
         × (Takes (S.taken out.old) (S.taken out.new) (line_of Refusal.Memory)
         ⊎ TakesLinesOfAny (texts_of words.now) (F.held files.old) (F.load_faults files.old) (F.load_faults files.new) (S.taken out.old) (S.taken out.new)) }
 
+    // Status 15 is the program's own, for words that the system can't give.
+    ensures never { result ≢ 15 }
+
     // No command changes a file.
     ensures held { F.held files.new ≡ F.held files.old }
     ensures saves { F.save_faults files.new ≡ F.save_faults files.old }

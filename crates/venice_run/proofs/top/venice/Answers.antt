@@ -1,4 +1,4 @@
-use Rattle.venice_run.proofs.Endings.{replies, quiet, file, put, memory}
+use Rattle.venice_run.proofs.Endings.{replies, quiet, file, put, memory, not_fifteen}
 use Rattle.venice_run.proofs.top.venice.Goals as goal
 
 pub returns-clause-reply : goal.returns-clause-reply
@@ -15,3 +15,6 @@ returns-clause-put g c = λ nine. put _ _ _ _ _ _ _ _ _ c.reply.ensures.ends nin
 
 pub returns-clause-memory : goal.returns-clause-memory
 returns-clause-memory g c = λ ten. memory _ _ _ _ _ _ _ _ _ c.reply.ensures.ends ten
+
+pub returns-clause-never : goal.returns-clause-never
+returns-clause-never g c = λ fifteen. not_fifteen _ _ _ _ _ _ _ _ _ c.reply.ensures.ends fifteen
