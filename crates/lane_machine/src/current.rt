@@ -65,7 +65,7 @@ impl Current {
     }
 
     /// Goes on past a beat that took `count` elements. `sum` is the row's sum with these elements,
-    /// which ends with the row. False, with nothing changed, where that was the last beat.
+    /// which ends with the row. False where that was the work's last beat.
     pub fn advance(&mut self, work: &VecWork, count: u32, sum: i128) -> bool
         requires counts { HasCounts work.now }
         requires at { IsAt work.now self.old }

@@ -146,8 +146,8 @@ fn instruction(kind: VecKind, vl: u32, rows: u32, a: u32, b: u32) -> VecWork
     }
 }
 
-/// A row of the table: the kind, the elements, A's and B's numbers where they are scalars, the cells
-/// of A, of B and of the destination before, and those of the destination after.
+/// A row of the table: the kind, the elements, A's and B's numbers where they are scalars, the
+/// cells of A, of B and of the destination before, and those of the destination after.
 struct Row {
     op: VecOp,
     elem: Elem,
