@@ -1,18 +1,16 @@
 -- How a work comes on.
-use Rattle.std.proofs.Common.{◌≡◌, ℕ, ◌+◌, ◌-◌, ◌*◌, ◌^◌, ◌<◌, ◌≤◌, inl, inr, sym, refl, arith, lit≤, max, leb, false, ℤ, pos}
+use Rattle.std.proofs.Common.{◌≡◌, ◌+◌, ◌-◌, ◌*◌, ◌^◌, ◌<◌, ◌≤◌, inl, inr, sym, refl, arith, lit≤, leb, false, ℤ, pos}
 use Rattle.std.proofs.lemmas.Int.{ints}
 use Rattle.std.proofs.lemmas.Bool.{cases_Bool, cond-true, cond-false, le-leb, lt-leb}
-use Rattle.std.proofs.Math.Nat.{div-le_self, mul-le-mul_right}
 use Rattle.ven_base.specs.declared.elem.Elem.{Elem}
 use Rattle.ven_base.specs.declared.elem.Elem.TheVariants.{U8, I8, U16, I16, U32, I32}
 use Rattle.ven_base.specs.Elem.{size_of}
 use Rattle.ven_base.specs.Wrap.{wrapped}
-use Rattle.venice_isa.specs.declared.kind.VecKind.{VecKind}
 use Rattle.venice_isa.specs.declared.work.VecWork.{VecWork}
 use Rattle.venice_isa.specs.Whole.{HasCounts}
 use Rattle.venice_isa.specs.Region.{place_in}
 use Rattle.venice_isa.specs.Footprint.{source_a, source_b, destination}
-use Rattle.venice_isa.specs.Beat.{lane_group, beats_of_row}
+use Rattle.venice_isa.specs.Beat.{beats_of_row}
 use Rattle.venice_isa.proofs.Walks.{walk_on, walk_next_row, walk_row, walk_fits, come_fits, come_on, come_to_row, come_to_end}
 use Rattle.venice_isa.proofs.Wholes.{size_positive}
 use Rattle.lane_machine.specs.declared.current.Current.{Current}
@@ -28,12 +26,6 @@ size_at_most U16 = lit≤ tt
 size_at_most I16 = lit≤ tt
 size_at_most U32 = lit≤ tt
 size_at_most I32 = lit≤ tt
-
--- a group of the lanes has few bytes
-pub few_bytes : (group : ℕ) (elem : Elem) → group ≤ 16 → group * size_of elem < 2 ^ 32
-few_bytes group elem few =
-    let bytes : group * size_of elem ≤ 16 * size_of elem = mul-le-mul_right (size_of elem) few in
-    omega (arith, bytes, size_at_most elem)
 
 module _ (work : VecWork) (counts : HasCounts work) (current : Current) (at : IsAt work current) where
   -- ---- within numbers of 32 and of 64 bits

@@ -1,5 +1,5 @@
 -- What the next elements of a row get, one after another.
-use Rattle.std.proofs.Common.{◌≡◌, ℕ, zero, suc, ◌+◌, ◌^◌, ◌<◌, ◌≤◌, inl, inr, ap, sym, ◌∙◌, refl, subst, arith, List, [], ◌++◌, length, true, false, ℤ, pos, negsuc, neg_ℤ, ◌+ℤ◌, w64, get_or, to_z, of_z}
+use Rattle.std.proofs.Common.{◌≡◌, ℕ, zero, suc, ◌+◌, ◌^◌, ◌<◌, ◌≤◌, inl, inr, ap, sym, ◌∙◌, subst, arith, List, ◌++◌, length, true, false, ℤ, pos, negsuc, neg_ℤ, ◌+ℤ◌, w64, get_or, to_z, of_z}
 use mir.Val.{SFits}
 use Rattle.std.proofs.lemmas.Option.{get_or_from_slice_get}
 use Rattle.std.specs.Prelude.{slice_get, Some, ◌≤ℤ◌}
@@ -18,7 +18,7 @@ use Rattle.venice_isa.specs.Element.{spelled}
 use Rattle.venice_isa.specs.Footprint.{destination}
 use Rattle.venice_isa.specs.Whole.{number_of_a, number_of_b, result_at, is_left_alone, new_element, flag_for, sum_of_results}
 use Rattle.venice_isa.specs.Beat.{new_elements}
-use Rattle.venice_isa.proofs.Overwrites.{overwritten_length, overwritten_nothing}
+use Rattle.venice_isa.proofs.Overwrites.{overwritten_length}
 use Rattle.venice_isa.proofs.OneBeat.{group_end}
 use Rattle.venice_isa.proofs.Wholes.{size_positive, columns_without_sum}
 use Rattle.venice_isa.proofs.Beats.{element_length, elements_length, sum_on}
