@@ -1,10 +1,7 @@
 -- How a work comes on.
-use Rattle.std.proofs.Common.{◌≡◌, ◌+◌, ◌-◌, ◌*◌, ◌^◌, ◌<◌, ◌≤◌, inl, inr, sym, refl, arith, lit≤, leb, false, ℤ, pos}
+use Rattle.std.proofs.Common.{◌≡◌, ◌+◌, ◌-◌, ◌*◌, ◌^◌, ◌<◌, ◌≤◌, inl, inr, sym, refl, arith, leb, false, ℤ, pos}
 use Rattle.std.proofs.lemmas.Int.{ints}
 use Rattle.std.proofs.lemmas.Bool.{cases_Bool, cond-true, cond-false, le-leb, lt-leb}
-use Rattle.ven_base.specs.declared.elem.Elem.{Elem}
-use Rattle.ven_base.specs.declared.elem.Elem.TheVariants.{U8, I8, U16, I16, U32, I32}
-use Rattle.ven_base.specs.Elem.{size_of}
 use Rattle.ven_base.specs.Wrap.{wrapped}
 use Rattle.venice_isa.specs.declared.work.VecWork.{VecWork}
 use Rattle.venice_isa.specs.Whole.{HasCounts}
@@ -12,20 +9,13 @@ use Rattle.venice_isa.specs.Region.{place_in}
 use Rattle.venice_isa.specs.Footprint.{source_a, source_b, destination}
 use Rattle.venice_isa.specs.Beat.{beats_of_row}
 use Rattle.venice_isa.proofs.Walks.{walk_on, walk_next_row, walk_row, walk_fits, come_fits, come_on, come_to_row, come_to_end}
+use Rattle.venice_isa.proofs.Beats.{size_at_most}
 use Rattle.venice_isa.proofs.Wholes.{size_positive}
 use Rattle.lane_machine.specs.declared.current.Current.{Current}
 use Rattle.lane_machine.specs.Current.{IsAt, IsBounded, IsNext, CanGo, CanGoToNextRow, group_of, gone_on, turned, has_number_for_b}
 use Rattle.lane_machine.specs.Group.{IsInside}
 use Rattle.lane_machine.proofs.Operands.{operand_on, operand_turned, operand_can_go, operand_can_turn}
 use Rattle.lane_machine.proofs.Places.{a_end, b_end, dst_end, sum_end}
-
-pub size_at_most : (elem : Elem) → size_of elem ≤ 4
-size_at_most U8 = lit≤ tt
-size_at_most I8 = lit≤ tt
-size_at_most U16 = lit≤ tt
-size_at_most I16 = lit≤ tt
-size_at_most U32 = lit≤ tt
-size_at_most I32 = lit≤ tt
 
 module _ (work : VecWork) (counts : HasCounts work) (current : Current) (at : IsAt work current) where
   -- ---- within numbers of 32 and of 64 bits

@@ -39,7 +39,7 @@ impl Model for Lanes {
 
 impl Lanes {
     /// How many works the queue holds, the current one among them.
-    pub const PLACES: u32 = 4;
+    const PLACES: u32 = 4;
 
     /// So many lanes, from 1 to 4, with an empty queue. An `Err` says that there is no memory for
     /// its places; nothing else takes memory.

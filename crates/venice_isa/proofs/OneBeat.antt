@@ -1,10 +1,10 @@
 -- One beat of a vector instruction, simple or not: what it writes, and what it depends on.
 use Rattle.std.proofs.Common.{◌≡◌, ℕ, zero, suc, ◌+◌, ◌-◌, ◌*◌, ◌/◌, ◌%◌, ◌<◌, ◌≤◌, ◌⊎◌, inl, inr, ap, sym, ◌∙◌, refl, subst, arith, List, ◌++◌, length, get_or, min, true, false, cond, leb, ℤ, pos, ◌+ℤ◌, Some}
-use Rattle.std.specs.Prelude.{slice_get, unwrap_or}
+use Rattle.std.specs.Prelude.{slice_get}
 use Rattle.std.proofs.lemmas.Bool.{cases_lt, cases_Bool, cond-true, cond-false}
 use Rattle.std.proofs.Math.Nat.{mul-pos}
 use Rattle.std.proofs.lemmas.Nat.{div_below, mod_below, div-add-mod'}
-use Rattle.std.proofs.lemmas.Option.{slice_get-get_or, slice_get_past, unwrap_or-slice_get}
+use Rattle.std.proofs.lemmas.Option.{slice_get-get_or}
 use Rattle.ven_base.specs.Elem.{size_of}
 use Rattle.ven_base.specs.Wrap.{wrapped}
 use Rattle.venice_isa.specs.declared.work.VecWork.{VecWork}
@@ -12,10 +12,10 @@ use Rattle.venice_isa.specs.declared.region.Region.{Region}
 use Rattle.venice_isa.specs.declared.issue.Issue.TheVariants.{Vector}
 use Rattle.ven_base.specs.Cell.{Cell}
 use Rattle.venice_isa.specs.Cell.{overwritten}
-use Rattle.venice_isa.specs.Region.{place_in, IsAt, Covers, LiesBelow}
+use Rattle.venice_isa.specs.Region.{place_in, Covers, LiesBelow}
 use Rattle.venice_isa.specs.Footprint.{source_a, source_b, destination, ReadsCell, WritesCell}
-use Rattle.venice_isa.specs.Whole.{new_element, sum_of_results, spelled_sum, HasCounts}
-use Rattle.venice_isa.specs.Beat.{Progress, lane_group, beats_of_row, vector_beats, group_at, lane_group_at, new_elements, sum_after, cells_after_sum, sum_left, cells_after_group, vector_beat, progress_after}
+use Rattle.venice_isa.specs.Whole.{new_element, spelled_sum, HasCounts}
+use Rattle.venice_isa.specs.Beat.{Progress, lane_group, vector_beats, lane_group_at, new_elements, sum_after, cells_after_sum, sum_left, cells_after_group, vector_beat, progress_after}
 use Rattle.venice_isa.proofs.Regions.{end_of, covered_below_end}
 use Rattle.venice_isa.proofs.Overwrites.{overwritten_length, overwritten_below, overwritten_in, overwritten_above}
 use Rattle.venice_isa.proofs.Wholes.{size_positive, ReadsFor, reads_for_is_read, columns_without_sum, same_slot, same_new_element, same_sum}

@@ -7,7 +7,7 @@ use Rattle.venice_isa.specs.declared.walk.Walk.{Walk}
 use Rattle.venice_isa.specs.Region.{place_in}
 use Rattle.venice_isa.specs.Beat.{beats_of_row, group_at}
 use Rattle.venice_isa.specs.Walk.{HasCome, IsWalk}
-use Rattle.venice_isa.proofs.Counts.{begin_before_end, some_beats, first_below, row_below, next_beat}
+use Rattle.venice_isa.proofs.Counts.{begin_before_end, some_beats, row_below, next_beat}
 
 -- ---- walks
 
