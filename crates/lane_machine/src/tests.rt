@@ -1,9 +1,6 @@
 //! Instructions run on a small scratchpad: A stands at cell 0, B at 16 and the destination at 32.
-ghost use Rattle.std.specs.Prelude.{◌≡◌, ◌↔◌, ◌+◌, ◌<◌, ◌≤◌, [], ◌∷◌, ◌++◌, IsTrue, IsFalse, IsErr, OnOk, All, length, slice_get};
+ghost use Rattle.std.specs.Prelude.{◌≡◌, ◌↔◌, ◌+◌, ◌<◌, ◌≤◌, [], ◌∷◌, ◌++◌, IsTrue, IsErr, OnOk, All, length, slice_get};
 ghost use Rattle.spad_store.specs.Footprint.{TouchesBelow};
-ghost use Rattle.venice_isa.specs.Region.{LiesBelow};
-ghost use Rattle.venice_isa.specs.Footprint.{source_a, source_b};
-ghost use Rattle.venice_isa.specs.Mode.{uses_b};
 ghost use Rattle.venice_isa.specs.Whole.{HasCounts};
 ghost use Rattle.lane_machine.specs.Group.{IsInside};
 
@@ -50,31 +47,11 @@ fn four(spad: &Spad, at: u32) -> Four
     ]
 }
 
-/// Whether A's elements, where they stand in cells, lie below the end.
-fn a_lies_below(work: &VecWork, end: u32) -> bool
-    ensures { IsTrue result → IsFalse work.now.kind.a_scalar → LiesBelow (source_a work.now) end }
-{
-    work.kind.a_scalar || work.source_a().lies_below(end)
-}
-
-/// Whether B's elements, where there are any, lie below the end.
-fn b_lies_below(work: &VecWork, end: u32) -> bool
-    ensures { IsTrue result → IsTrue (uses_b work.now.kind.op) → IsFalse work.now.kind.b_scalar → LiesBelow (source_b work.now) end }
-{
-    !work.kind.op.uses_b() || work.kind.b_scalar || work.source_b().lies_below(end)
-}
-
 /// Whether every cell that the instruction reads or writes lies below the end.
 fn lies_below(work: &VecWork, end: u32) -> bool
     ensures { IsTrue result → IsInside work.now end }
 {
-    if !a_lies_below(work, end) {
-        return false;
-    }
-    if !b_lies_below(work, end) {
-        return false;
-    }
-    work.destination().lies_below(end)
+    work.is_in_range(end)
 }
 
 /// Does a work by beats, and gives their number.

@@ -1,6 +1,0 @@
-use Rattle.std.proofs.Common.{subst}
-use Rattle.venice_isa.specs.Region.{LiesBelow}
-use Rattle.lane_machine.proofs.tests.a_lies_below.Goals as goal
-
-pub returns-else-work : goal.returns-else-work
-returns-else-work c = λ yes vector. subst (λ region. LiesBelow region c.args.end) c.source_a.ensures (c.lies_below.ensures.0 yes)
