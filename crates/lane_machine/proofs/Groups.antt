@@ -25,7 +25,7 @@ use Rattle.venice_isa.proofs.Beats.{element_length, elements_length, sum_on}
 use Rattle.venice_isa.proofs.Results.{result_in_type}
 use Rattle.ven_base.proofs.Wrapped.{IsElement-wrapped}
 use Rattle.lane_machine.specs.Current.{IsBounded}
-use Rattle.lane_machine.specs.Group.{Begins}
+use Rattle.lane_machine.specs.Group.{HasFirst}
 use Rattle.lane_machine.proofs.Elements.{overwritten-append, overwritten_by_itself}
 
 -- ---- results
@@ -87,7 +87,7 @@ pub number_read_at : (elem : Elem) (items : List ℤ) (k : ℕ) (n : ℤ) → sl
 number_read_at elem items k n there in_type =
     ap (λ n. to_z w64 (of_z w64 n)) (get_or_from_slice_get items k n (pos 0) there) ∙ to_z-of_z w64 n (element_fits elem n in_type)
 
-pub number_read : (elem : Elem) (item : ℕ → ℤ) (count : ℕ) (items : List ℤ) (k : ℕ) → Begins count item items → k < count → IsElement elem (item k) → to_z w64 (of_z w64 (get_or items k (pos 0))) ≡ item k
+pub number_read : (elem : Elem) (item : ℕ → ℤ) (count : ℕ) (items : List ℤ) (k : ℕ) → HasFirst count item items → k < count → IsElement elem (item k) → to_z w64 (of_z w64 (get_or items k (pos 0))) ≡ item k
 number_read elem item count items k begins below in_type = number_read_at elem items k (item k) (begins.each k below) in_type
 
 -- ---- writes

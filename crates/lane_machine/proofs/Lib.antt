@@ -1,5 +1,5 @@
 pub mod Elements
-pub mod Begins
+pub mod FirstItems
 pub mod Operands
 pub mod Places
 pub mod Currents

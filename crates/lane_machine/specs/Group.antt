@@ -12,7 +12,7 @@ abbrev pub IsInside : VecWork → ℕ → Type 0
 IsInside work end = TouchesBelow (ReadsCell (Vector work)) (WritesCell (Vector work)) end
 
 -- of the 16 items of a list, so many first ones are these
-pub record Begins {A : Type 0} (count : ℕ) (item : ℕ → A) (items : List A) : Type 0 where
+pub record HasFirst {A : Type 0} (count : ℕ) (item : ℕ → A) (items : List A) : Type 0 where
   pub long : length items ≡ 16
   pub each : (k : ℕ) → k < count → slice_get items k ≡ Some (item k)
 

@@ -1,5 +1,5 @@
 //! How far the queue's first work has come.
-ghost use Rattle.std.specs.Prelude.{◌≡◌, ℕ, ◌+◌, ◌*◌, ◌<◌, ◌≤◌, ◌^◌, IsTrue, IsFalse, pos};
+ghost use Rattle.std.specs.Prelude.{◌≡◌, ◌+◌, ◌*◌, ◌<◌, ◌≤◌, ◌^◌, IsTrue, IsFalse, pos};
 ghost use Rattle.ven_base.specs.Wrap.{wrapped};
 ghost use Rattle.venice_isa.specs.Footprint.{source_a, source_b};
 ghost use Rattle.venice_isa.specs.Whole.{HasCounts};
@@ -16,15 +16,15 @@ use venice_isa::{VecWork, Walk};
 /// sums: the operands and the destination, the row and the elements of it that are behind, the
 /// beats done and, with accumulate, the row's sum so far.
 #[derive(Clone, Copy, Debug)]
-pub struct Current {
-    pub group: u32,
-    pub a: Operand,
-    pub b: Operand,
-    pub dst: Walk,
-    pub row: u32,
-    pub first: u32,
-    pub done: u64,
-    pub sum: i128,
+pub(crate) struct Current {
+    pub(crate) group: u32,
+    pub(crate) a: Operand,
+    pub(crate) b: Operand,
+    pub(crate) dst: Walk,
+    pub(crate) row: u32,
+    pub(crate) first: u32,
+    pub(crate) done: u64,
+    pub(crate) sum: i128,
 }
 
 impl Current {
@@ -33,7 +33,7 @@ impl Current {
     ghost use Rattle.venice_isa.specs.Beat.{not_begun};
 
     /// A work that has not begun.
-    pub fn begin(work: &VecWork, lanes: u32) -> Current
+    pub(crate) fn begin(work: &VecWork, lanes: u32) -> Current
         requires counts { HasCounts work.now }
         requires some_lanes { 0 < lanes }
         requires few_lanes { lanes ≤ 4 }
@@ -54,7 +54,7 @@ impl Current {
     }
 
     /// How many elements the next beat takes: a group, or the row's rest.
-    pub fn count(&self, work: &VecWork) -> u32
+    pub(crate) fn count(&self, work: &VecWork) -> u32
         requires { IsAt work.now self.now }
         ensures value { result ≡ group_of work.now self.now }
         ensures in_row { self.now.first + result ≤ work.now.vl }
@@ -66,7 +66,7 @@ impl Current {
 
     /// Goes on past a beat that took `count` elements. `sum` is the row's sum with these elements,
     /// which ends with the row. False where that was the work's last beat.
-    pub fn advance(&mut self, work: &VecWork, count: u32, sum: i128) -> bool
+    pub(crate) fn advance(&mut self, work: &VecWork, count: u32, sum: i128) -> bool
         requires counts { HasCounts work.now }
         requires at { IsAt work.now self.old }
         requires inside { IsInside work.now (2 ^ 32) }

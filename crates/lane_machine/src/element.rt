@@ -1,27 +1,32 @@
 //! Elements of the scratchpad as numbers of their type.
 ghost use Rattle.std.specs.Prelude.{◌≡◌, ◌+◌, ◌*◌, ◌<◌, ◌≤◌, ◌^◌, ◌+ℤ◌, ◌≤ℤ◌, length, pos};
-ghost use Rattle.ven_base.specs.Elem.{size_of, modulus_of, least_of, IsElement};
+ghost use Rattle.ven_base.specs.Elem.{size_of, modulus_of, least_of};
 ghost use Rattle.ven_base.specs.declared.elem.Elem.{Elem};
-ghost use Rattle.ven_base.specs.Operation.{bits_of};
 ghost use Rattle.ven_base.specs.Wrap.{wrapped};
 ghost use Rattle.spad_store.specs.Cells.{flag_at};
 ghost use Rattle.venice_isa.specs.Cell.{overwritten};
 ghost use Rattle.venice_isa.specs.Element.{number_at, spelled};
-ghost use Rattle.lane_machine.specs.Group.{Begins};
+ghost use Rattle.lane_machine.specs.Group.{HasFirst};
 
 use crate::width::{FourBytes, OneByte, TwoBytes, Width};
 use spad_store::Spad;
-use ven_base::Elem;
+use ven_base::{Elem, bits_of};
 
 /// The most elements that a beat takes: four lanes of 4 bytes, in elements of a byte.
-pub const MOST: usize = 16;
+pub(crate) const MOST: usize = 16;
 
 /// Reads the numbers of so many elements, the first of which begins at a place.
-pub fn read_numbers(cells: &Spad, elem: Elem, place: u32, count: u32, numbers: &mut [i64; MOST])
+pub(crate) fn read_numbers(
+    cells: &Spad,
+    elem: Elem,
+    place: u32,
+    count: u32,
+    numbers: &mut [i64; MOST],
+)
     requires few { count ≤ 16 }
     requires inside { place + count * size_of elem ≤ length cells.now }
     requires small { length cells.now < 2 ^ 32 }
-    ensures { Begins count (λ k. number_at elem cells.now (place + k * size_of elem)) numbers.new }
+    ensures { HasFirst count (λ k. number_at elem cells.now (place + k * size_of elem)) numbers.new }
 {
     match elem {
         Elem::U8 | Elem::I8 => read_wide::<OneByte>(cells, elem, place, count, numbers),
@@ -36,7 +41,7 @@ fn read_wide<W: Width>(cells: &Spad, elem: Elem, place: u32, count: u32, numbers
     requires few { count ≤ 16 }
     requires inside { place + count * size_of elem ≤ length cells.now }
     requires small { length cells.now < 2 ^ 32 }
-    ensures { Begins count (λ k. number_at elem cells.now (place + k * size_of elem)) numbers.new }
+    ensures { HasFirst count (λ k. number_at elem cells.now (place + k * size_of elem)) numbers.new }
 {
     let (end, modulus) = (elem.end(), elem.modulus());
     let mut at = place;
@@ -47,11 +52,11 @@ fn read_wide<W: Width>(cells: &Spad, elem: Elem, place: u32, count: u32, numbers
 }
 
 /// The flags of the first bytes of so many elements, the first of which begins at a place.
-pub fn flags_at(cells: &Spad, elem: Elem, place: u32, count: u32) -> [bool; MOST]
+pub(crate) fn flags_at(cells: &Spad, elem: Elem, place: u32, count: u32) -> [bool; MOST]
     requires few { count ≤ 16 }
     requires inside { place + count * size_of elem ≤ length cells.now }
     requires small { length cells.now < 2 ^ 32 }
-    ensures { Begins count (λ k. flag_at cells.now (place + k * size_of elem)) result }
+    ensures { HasFirst count (λ k. flag_at cells.now (place + k * size_of elem)) result }
 {
     let size = elem.size();
     let mut flags = [false; MOST];
@@ -65,10 +70,9 @@ pub fn flags_at(cells: &Spad, elem: Elem, place: u32, count: u32) -> [bool; MOST
 }
 
 /// Writes the bytes of a number at a place, each with the flag.
-pub fn put_number(cells: &mut Spad, elem: Elem, place: u32, n: i64, flag: bool)
+pub(crate) fn put_number(cells: &mut Spad, elem: Elem, place: u32, n: i64, flag: bool)
     requires inside { place + size_of elem ≤ length cells.old }
     requires small { length cells.old < 2 ^ 32 }
-    requires in_type { IsElement elem n }
     ensures { cells.new ≡ overwritten cells.old place (spelled elem n flag) }
 {
     let bits = bits_of(elem, n);
@@ -88,16 +92,4 @@ fn number_of(bits: u32, end: i64, modulus: i64) -> i64
 {
     let n = i64::from(bits);
     if n < end { n } else { n - modulus }
-}
-
-/// The bits of a number of the type.
-pub fn bits_of(elem: Elem, n: i64) -> u32
-    requires { IsElement elem n }
-    ensures { result ≡ bits_of elem n }
-{
-    if n < 0 {
-        (n + elem.modulus()) as u32
-    } else {
-        n as u32
-    }
 }

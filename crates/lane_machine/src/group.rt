@@ -1,5 +1,5 @@
 //! What a beat does with the next elements of a row. All sources are read before the first write.
-ghost use Rattle.std.specs.Prelude.{◌≡◌, ◌+◌, ◌*◌, ◌<◌, ◌≤◌, ◌^◌, ℕ, pos, length, IsTrue, IsFalse, if◌then◌else◌};
+ghost use Rattle.std.specs.Prelude.{◌≡◌, ◌+◌, ◌<◌, ◌≤◌, ◌^◌, ℕ, pos, length, IsTrue, IsFalse, if◌then◌else◌};
 ghost use Rattle.ven_base.specs.Elem.{size_of};
 ghost use Rattle.venice_isa.specs.Cell.{overwritten};
 ghost use Rattle.venice_isa.specs.Region.{place_in};
@@ -7,19 +7,19 @@ ghost use Rattle.venice_isa.specs.Footprint.{destination};
 ghost use Rattle.venice_isa.specs.Whole.{sum_of_results, spelled_sum, HasCounts};
 ghost use Rattle.venice_isa.specs.Mode.{is_conditional};
 ghost use Rattle.venice_isa.specs.Beat.{new_elements, vector_beat, lane_group, lane_group_at, sum_after};
-ghost use Rattle.lane_machine.specs.Group.{IsInside, Begins, results_from, is_written_from};
+ghost use Rattle.lane_machine.specs.Group.{IsInside, HasFirst, results_from, is_written_from};
 ghost use Rattle.lane_machine.specs.Current.{IsAt, IsPlaced, IsBounded, group_of, progress_of};
 
 use crate::current::Current;
-use crate::element::{MOST, bits_of, put_number};
+use crate::element::{MOST, put_number};
 use crate::width::{FourBytes, OneByte, TwoBytes, Width};
 use spad_store::Spad;
-use ven_base::{Elem, wrap};
+use ven_base::{Elem, bits_of, wrap};
 use venice_isa::{VecWork, result_of, sets_flag};
 
 /// Does the next beat of a work, which takes `count` elements. Gives the row's sum with their
 /// results, which is 0 without accumulate.
-pub fn beat(cells: &mut Spad, work: &VecWork, current: &Current, count: u32) -> i128
+pub(crate) fn beat(cells: &mut Spad, work: &VecWork, current: &Current, count: u32) -> i128
     requires counts { HasCounts work.now }
     requires at { IsAt work.now current.now }
     requires count { count ≡ group_of work.now current.now }
@@ -57,7 +57,7 @@ fn work_out(cells: &Spad, work: &VecWork, current: &Current, count: u32, results
     requires few { count ≤ 16 }
     requires inside { IsInside work.now (length cells.now) }
     requires small { length cells.now < 2 ^ 32 }
-    ensures { Begins count (results_from work.now cells.now current.now.row current.now.first) results.new }
+    ensures { HasFirst count (results_from work.now cells.now current.now.row current.now.first) results.new }
 {
     let kind = work.kind;
     let mut numbers = [0; MOST];
@@ -96,7 +96,7 @@ fn put_all(cells: &mut Spad, work: &VecWork, current: &Current, count: u32, resu
     requires few { count ≤ 16 }
     requires inside { IsInside work.now (length cells.old) }
     requires small { length cells.old < 2 ^ 32 }
-    requires results { Begins count (results_from work.now cells.old current.now.row current.now.first) results.now }
+    requires results { HasFirst count (results_from work.now cells.old current.now.row current.now.first) results.now }
     ensures cells { cells.new ≡ overwritten cells.old (place_in (destination work.now) current.now.row current.now.first)
         (new_elements work.now cells.old current.now.row current.now.first count) }
     ensures same_length { length cells.new ≡ length cells.old }
@@ -121,8 +121,8 @@ fn put_results(
     requires few { count ≤ 16 }
     requires inside { IsInside work.now (length cells.old) }
     requires small { length cells.old < 2 ^ 32 }
-    requires results { Begins count (results_from work.now cells.old current.now.row current.now.first) results.now }
-    requires written { Begins count (is_written_from work.now cells.old current.now.row current.now.first) written.now }
+    requires results { HasFirst count (results_from work.now cells.old current.now.row current.now.first) results.now }
+    requires written { HasFirst count (is_written_from work.now cells.old current.now.row current.now.first) written.now }
     ensures cells { cells.new ≡ overwritten cells.old (place_in (destination work.now) current.now.row current.now.first)
         (new_elements work.now cells.old current.now.row current.now.first count) }
     ensures same_length { length cells.new ≡ length cells.old }
@@ -155,8 +155,8 @@ fn put_wide<W: Width>(
     requires few { count ≤ 16 }
     requires inside { IsInside work.now (length cells.old) }
     requires small { length cells.old < 2 ^ 32 }
-    requires results { Begins count (results_from work.now cells.old current.now.row current.now.first) results.now }
-    requires written { Begins count (is_written_from work.now cells.old current.now.row current.now.first) written.now }
+    requires results { HasFirst count (results_from work.now cells.old current.now.row current.now.first) results.now }
+    requires written { HasFirst count (is_written_from work.now cells.old current.now.row current.now.first) written.now }
     ensures cells { cells.new ≡ overwritten cells.old (place_in (destination work.now) current.now.row current.now.first)
         (new_elements work.now cells.old current.now.row current.now.first count) }
     ensures same_length { length cells.new ≡ length cells.old }

@@ -7,7 +7,7 @@ ghost use Rattle.venice_isa.specs.Element.{little_endian, low_bytes};
 use spad_store::Spad;
 
 /// A number of bytes that an element has. A loop over elements is written once for all widths.
-pub trait Width {
+pub(crate) trait Width {
     ghost use Rattle.std.specs.Prelude.{ℕ};
 
     ghost SIZE: { ℕ };
@@ -29,13 +29,13 @@ pub trait Width {
 }
 
 /// Elements of `u8` and `i8`.
-pub struct OneByte;
+pub(crate) struct OneByte;
 
 /// Elements of `u16` and `i16`.
-pub struct TwoBytes;
+pub(crate) struct TwoBytes;
 
 /// Elements of `u32` and `i32`.
-pub struct FourBytes;
+pub(crate) struct FourBytes;
 
 impl Width for OneByte {
     ghost SIZE = { 1 };

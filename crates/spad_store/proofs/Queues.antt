@@ -1,8 +1,8 @@
--- What becomes of a unit's queue: a work comes in last, and the first one comes on or leaves.
-use Rattle.std.proofs.Common.{◌≡◌, ◌⊎◌, inl, inr, ℕ, ◌<◌, sym, refl, subst, arith, List, [], ◌∷◌, ◌++◌, length, drop, Some, None}
-use Rattle.std.specs.Prelude.{slice_get, All, IfSome, Option}
-use Rattle.std.proofs.lemmas.List.{length-drop, length_push}
-use Rattle.std.proofs.lemmas.List.Elements.{All-get_or, All-drop, All-push}
+-- What becomes of a unit's queue: the first work comes on or leaves.
+use Rattle.std.proofs.Common.{◌≡◌, ◌⊎◌, inl, inr, ℕ, ◌<◌, sym, refl, subst, arith, List, [], ◌∷◌, length, drop, Some}
+use Rattle.std.specs.Prelude.{slice_get, All, IfSome}
+use Rattle.std.proofs.lemmas.List.{length-drop}
+use Rattle.std.proofs.lemmas.List.Elements.{All-get_or, All-drop}
 use Rattle.std.proofs.lemmas.Option.{slice_get_within, get_or_from_slice_get}
 use Rattle.spad_store.specs.Queue.{IsQueue}
 use Rattle.spad_store.specs.Front.{IsFront}
@@ -33,39 +33,11 @@ module _ {Work Current : Type 0} (IsAt : Work → Current → Type 0) where
   at_front [] work current first at = cc
   at_front (x ∷ works) work current first at = subst (λ slot. IfSome slot (λ w. IsAt w current)) (sym first) at
 
-  -- behind others
-  pub front_pushed : (works : List Work) (work : Work) (current : Option Current) → 0 < length works → IsFront IsAt works current → IsFront IsAt (works ++ work ∷ []) current
-  front_pushed [] work current some kept = absurd (omega arith)
-  front_pushed (x ∷ works) work None some kept = kept
-  front_pushed (x ∷ works) work (Some current) some kept = kept
-
-  -- as the first
-  pub front_begun : (works : List Work) (work : Work) (current : Current) → length works ≡ 0 → IsAt work current → IsFront IsAt (works ++ work ∷ []) (Some current)
-  front_begun [] work current none at = at
-  front_begun (x ∷ works) work current none at = absurd (omega arith)
-
 -- ---- the queue
 
 module _ {Work Progress : Type 0} (has_counts : Work → Type 0) (places : ℕ) (beats : Work → ℕ) (done : Progress → ℕ) (not_begun : Progress) where
   abbrev Queue : List Work → Progress → Type 0
   Queue = IsQueue has_counts places beats done not_begun
-
-  -- a work comes in last
-  pub queue_pushed : (works : List Work) (work : Work) (progress : Progress) → Queue works progress → length works < places → has_counts work → done not_begun < beats work → Queue (works ++ work ∷ []) progress
-  queue_pushed [] work progress queue room counts some = record {
-    some = queue.some;
-    within = omega arith;
-    counts = All-push has_counts [] work queue.counts counts;
-    front = subst (λ p. done p < beats work) (sym (queue.idle refl)) some;
-    idle = λ none. cc;
-  }
-  queue_pushed (x ∷ works) work progress queue room counts some = record {
-    some = queue.some;
-    within = omega (arith, length_push (x ∷ works) work);
-    counts = All-push has_counts (x ∷ works) work queue.counts counts;
-    front = queue.front;
-    idle = λ none. cc;
-  }
 
   front_below : ((work : Work) → has_counts work → done not_begun < beats work) → (works : List Work) → All has_counts works → IfSome (slice_get works 0) (λ work. done not_begun < beats work)
   front_below some [] counts = tt

@@ -1,6 +1,6 @@
 //! What every unit of the machine keeps to.
 
-ghost use Rattle.std.specs.Prelude.{◌≡◌, ℕ, ◌+◌, ◌<◌, ◌≤◌, ◌↔◌, List, [], ◌∷◌, ◌++◌, length, drop, slice_get, All, IsTrue, IsFalse, IsErr, OnOk, OnErr, IfErr, IfSome};
+ghost use Rattle.std.specs.Prelude.{◌≡◌, ℕ, ◌+◌, ◌<◌, ◌↔◌, List, [], ◌∷◌, ◌++◌, length, drop, slice_get, All, IsTrue, IsFalse, IsErr, OnOk, OnErr, IfErr, IfSome};
 ghost use Rattle.ven_base.specs.Cell.{Cell};
 ghost use Rattle.spad_store.specs.Footprint.{TouchesBelow, WritesOnly, AgreesOn, ChangesAlike};
 ghost use Rattle.spad_store.specs.Queue.{IsQueue};

@@ -1,13 +1,8 @@
--- Where the value of an index lies among the values of an array, and which numbers are places.
-use Rattle.std.proofs.Common.{◌≡◌, ℕ, ◌+◌, ◌*◌, ◌<◌, ◌≤◌, arith, None, Some, refl, ap}
+-- Which numbers are places.
+use Rattle.std.proofs.Common.{◌≡◌, ℕ, ◌<◌, arith, None, Some, refl, ap}
 use Rattle.std.specs.Prelude.{◌↔◌, ℤ, pos, negsuc, Bool, true, false, nat_lt, if◌then◌else◌}
 use Rattle.std.proofs.lemmas.Bool.{ltb-true, ltb-false}
-use Rattle.std.proofs.Math.Nat.{mul-le-mul_right}
 use Rattle.ven_base.specs.Place.{place_within}
-
--- row by row, each place is one of the array's
-pub place_below : (rows cols i j : ℕ) → i < rows → j < cols → i * cols + j < rows * cols
-place_below rows cols i j h l = let next : i + 1 ≤ rows = omega arith in omega (arith, mul-le-mul_right cols next)
 
 -- a number is one of the n places exactly where it is a number from 0 on, below n
 pub place_within-is : (n : ℕ) (k : ℤ) (q : ℕ) → (place_within n k ≡ Some q) ↔ ((k ≡ pos q) × (q < n))

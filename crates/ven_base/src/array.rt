@@ -16,7 +16,6 @@ pub struct Array {
 }
 
 impl Model for Array {
-    ghost use Rattle.std.specs.Prelude.{ℕ};
     ghost use Rattle.ven_base.specs.Grid.{Grid, IsGrid};
 
     ghost Value = { Grid };

@@ -1,5 +1,5 @@
 //! Named arrays, in the order in which they were added (docs/LANGUAGE.md, "Arrays").
-ghost use Rattle.std.specs.Prelude.{◌≡◌, ◌↔◌, ◌<◌, ◌^◌, [], ◌∷◌, ◌++◌, ◌-◌, false, length, slice_get, Some, IsSome, IfSome, IfOk, OnErr, Contains, IsTrue, MatchBool};
+ghost use Rattle.std.specs.Prelude.{◌≡◌, ◌↔◌, ◌<◌, ◌^◌, [], ◌∷◌, ◌++◌, ◌-◌, false, length, slice_get, Some, IsSome, IfSome, IfOk, OnErr, Contains, IsTrue};
 ghost use Rattle.std.specs.Option.{option_copied};
 ghost use Rattle.ven_base.specs.Pairs.{ArePairs, names_of, arrays_of, array_named};
 

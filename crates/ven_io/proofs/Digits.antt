@@ -9,7 +9,7 @@ use Rattle.ven_base.specs.Name.{is_digit}
 use Rattle.ven_io.specs.declared.runs.Run.{Run}
 use Rattle.ven_io.specs.declared.runs.Run.TheVariants.{Digits, HexDigits}
 use Rattle.ven_io.specs.Token.{is_hex_digit}
-use Rattle.ven_io.specs.Number.{digit_value, digits_value, is_digit_of, is_hexadecimal, base_of, digits_start, digits_of, value_of, IsNumeral, IsFirstOther}
+use Rattle.ven_io.specs.Number.{digit_value, digits_value, is_digit_of, is_hexadecimal, base_of, digits_start, digits_of, value_of, IsNumeral}
 use Rattle.ven_io.specs.Runs.{is_in_run, digits_run, IsRun}
 use Rattle.ven_io.proofs.Places.{list_all_from, list_all_to}
 
@@ -48,30 +48,14 @@ hex_digit_at : (hex : Bool) (b : ℕ) → is_digit_of (cond hex 16 10) b ≡ tru
 hex_digit_at true b digit = digit
 hex_digit_at false b digit = or_left (is_digit b || (nat_le 97 b && nat_le b 102)) (nat_le 65 b && nat_le b 70) (or_left (is_digit b) (nat_le 97 b && nat_le b 102) digit)
 
-base_at : (hex : Bool) → (1 ≤ cond hex 16 10) × (cond hex 16 10 ≤ 16)
-base_at true = (omega arith, omega arith)
-base_at false = (omega arith, omega arith)
-
 -- the bytes in the run are the digits of the base
 run_is : (text : List ℕ) (b : ℕ) → is_in_run (digits_run text) b ≡ is_digit_of (base_of text) b
 run_is text b = run_is_at (is_hexadecimal text) b
-
-pub base_range : (text : List ℕ) → (1 ≤ base_of text) × (base_of text ≤ 16)
-base_range text = base_at (is_hexadecimal text)
 
 -- the run of digits, as far as it goes
 pub record IsDigitsRun (text : List ℕ) (end : ℕ) : Type 0 where
   pub start : digits_start text ≤ length text
   pub run : IsRun (is_in_run (digits_run text)) text (digits_start text) end
-
-pub first_other : (text : List ℕ) (end : ℕ) → IsDigitsRun text end → end < length text → IsFirstOther text end
-first_other text end digits lt =
-    record {
-      after = digits.run.after;
-      in_text = lt;
-      before = λ k le below. sym (run_is text (get_or text k 0)) ∙ digits.run.same k le below;
-      other = sym (run_is text (get_or text end 0)) ∙ digits.run.stops lt;
-    }
 
 digit_places : (text : List ℕ) (k : ℕ) → get_or (digits_of text) k 0 ≡ get_or text (digits_start text + k) 0
 digit_places text k = get_or-drop (digits_start text) text k 0

@@ -1,5 +1,4 @@
 pub mod Digits
-pub mod FaultLemmas
 pub mod FilesLemmas
 pub mod Lexed
 pub mod MemLemmas

@@ -1,5 +1,5 @@
--- What files in memory hold, from what their map has, and which calls fail.
-use Rattle.std.proofs.Common.{◌≡◌, ℕ, Bool, true, false, cond, List, [], ◌∷◌, map, Option, Some, string_bytes, refl, sym, ap, ◌∙◌, length, arith}
+-- What files in memory hold, from what their map has.
+use Rattle.std.proofs.Common.{◌≡◌, ℕ, Bool, true, false, cond, List, [], ◌∷◌, map, Option, Some, string_bytes, refl, sym, ap, ◌∙◌}
 use Rattle.std.specs.Ordering.{nat_cmp, is_eq, eq_by_cmp}
 use Rattle.std.proofs.lemmas.Cmp.{nat_list_cmp_total, eq_by_cmp_equiv}
 use Rattle.std.specs.Cmp.Lexicographic.{slice_cmp}
@@ -13,7 +13,6 @@ use Rattle.std.specs.declared.string.String.{String}
 use Rattle.std.proofs.lemmas.Map.Text.{is_eq-slice_cmp, btree_map_updates_text}
 use Rattle.std.specs.FinMap as fin
 use Rattle.ven_io.specs.MemFiles.{held_in}
-use Rattle.ven_io.specs.Numbers.{Numbers, FailsNext}
 
 -- a list of files is searched by the bytes of their names
 found : (es : List (String Global × Vec ℕ)) (name : List ℕ) →
@@ -50,7 +49,3 @@ held_in-insert before after name value updates =
     ∙ ap (λ b. cond b (Some value.items) (option_map (λ bytes. bytes.items) (get_by_text before other))) (turned (string_bytes name) other)
     ∙ ap (λ old. cond (eq_by_cmp (slice_cmp nat_cmp) other (string_bytes name)) (Some value.items) old) (sym (get-held_in before other))
     ∙ sym (fin.get-insert nat_list_cmp_total (held_in before) (string_bytes name) value.items other))
-
--- with no numbers in the list no call fails
-pub FailsNext-none : (numbers : Numbers) → numbers.fails ≡ [] → FailsNext numbers → ⊥
-FailsNext-none numbers none at = omega (arith, at.1, ap length none)

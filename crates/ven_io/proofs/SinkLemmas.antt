@@ -1,6 +1,6 @@
 -- What a sink has taken after several puts.
 use Rattle.std.proofs.Common.{ℕ, ◌+◌, List, [], ◌++◌, take, length, Option, Some, None, refl, sym, ap, subst, ◌∙◌, append_assoc, length-append, arith}
-use Rattle.std.proofs.lemmas.List.{take-append-le, append-nil, take_all}
+use Rattle.std.proofs.lemmas.List.{take-append-le, append-nil}
 use Rattle.std.proofs.Math.Seq.{take-append-add}
 use Rattle.ven_io.specs.Sink.{Takes, TakesPart}
 
@@ -14,18 +14,6 @@ pub Takes-then : (before now after : Option (List ℕ)) (first second : List ℕ
 Takes-then (Some before) now after first second one two =
     subst (λ bytes. Takes bytes after second) one two ∙ ap Some (append_assoc before first second)
 Takes-then None now after first second one two = subst (λ bytes. Takes bytes after second) one two
-
--- the whole piece is a prefix of it
-pub Takes-TakesPart : (before after : Option (List ℕ)) (piece : List ℕ) → Takes before after piece → TakesPart before after piece
-Takes-TakesPart before after piece takes = record {
-  count = length piece;
-  within = omega arith;
-  taken = subst (λ front. Takes before after front) (sym (take_all (length piece) piece (omega arith))) takes;
-}
-
--- nothing is a prefix of any piece
-pub TakesPart-nothing : (taken : Option (List ℕ)) (piece : List ℕ) → TakesPart taken taken piece
-TakesPart-nothing taken piece = record { count = 0; within = omega arith; taken = Takes-nothing taken }
 
 -- a prefix of the first of two pieces
 pub TakesPart-more : (before after : Option (List ℕ)) (first second : List ℕ) → TakesPart before after first → TakesPart before after (first ++ second)

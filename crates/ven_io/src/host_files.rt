@@ -1,8 +1,7 @@
 //! The real files.
 
-ghost use Rattle.std.specs.Prelude.{◌≡◌, ◌≤◌, ◌<◌, ◌+◌, None, IfOk, OnOk, IsErrOf, IsOkUnless, vec_len, length};
+ghost use Rattle.std.specs.Prelude.{◌≡◌, ◌≤◌, ◌<◌, ◌+◌, None, IfOk, IsErrOf, length};
 ghost use Rattle.ven_io.specs.Faults.{CountsFaults};
-ghost use Rattle.ven_io.specs.Files.{Loads};
 
 use crate::pieces::{read_first, write_whole};
 use crate::{Files, LoadFault, OutFault};

@@ -1,6 +1,6 @@
 //! The standard output.
 
-ghost use Rattle.std.specs.Prelude.{◌≡◌, None, OnOk, IsErrOf};
+ghost use Rattle.std.specs.Prelude.{◌≡◌, None, IsErrOf};
 ghost use Rattle.ven_io.specs.Faults.{CountsFaults};
 
 use crate::pieces::write_whole;

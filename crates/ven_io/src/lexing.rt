@@ -1,6 +1,6 @@
 //! The next token of a text.
 
-ghost use Rattle.std.specs.Prelude.{◌≡◌, ◌≢◌, ◌↔◌, ℕ, ◌<◌, ◌≤◌, ◌^◌, length, slice_index, IsTrue, IfOk, MatchOption};
+ghost use Rattle.std.specs.Prelude.{◌≡◌, ◌≢◌, ◌↔◌, ◌<◌, ◌≤◌, ◌^◌, length, slice_index, IsTrue, IfOk, MatchOption};
 ghost use Rattle.ven_base.specs.Name.{is_name_start, is_digit};
 ghost use Rattle.ven_io.specs.Token.{IsStop, StandsAt, NoneAt, NextIs};
 ghost use Rattle.ven_io.specs.Runs.{IsHexadecimalAt, IsDoubleSignAt, NoSign};

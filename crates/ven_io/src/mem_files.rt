@@ -1,9 +1,9 @@
 //! Files in memory.
 
-ghost use Rattle.std.specs.Prelude.{◌≡◌, ◌≤◌, ◌+◌, ◌↔◌, ℕ, List, [], take, Option, None, Some, IsSome, IfOk, OnOk, OnErr, IsErrOf, IsOkUnless, length};
+ghost use Rattle.std.specs.Prelude.{◌≡◌, ◌+◌, ◌↔◌, [], take, Option, None, Some, IsSome, IfOk, OnOk, OnErr, IsErrOf};
 ghost use Rattle.std.specs.Option.{option_map};
 ghost use Rattle.std.specs.FinMap.{empty, get, insert};
-ghost use Rattle.ven_io.specs.Files.{Shows, Loads, Saves, OthersStay};
+ghost use Rattle.ven_io.specs.Files.{Shows, Loads, OthersStay};
 ghost use Rattle.ven_io.specs.Numbers.{FailsNext, CountsCall};
 
 use crate::{Files, LoadFault, OutFault};

@@ -1,6 +1,6 @@
 //! Whole texts through any reader and any writer, read by read and write by write.
 
-ghost use Rattle.std.specs.Prelude.{◌≡◌, ◌≤◌, ◌<◌, ◌+◌, ◌++◌, List, ℕ, IfOk, IfSome, OnOk, OnErr, IsErrOf, IsOkUnless, take, vec_len, length};
+ghost use Rattle.std.specs.Prelude.{◌≡◌, ◌≤◌, ◌<◌, ◌+◌, ◌++◌, IfOk, IfSome, OnOk, OnErr, IsErrOf, IsOkUnless, take, vec_len, length};
 ghost use Rattle.std.specs.Io.KnownBytes.{Appends, Consumes, IsAtEnd};
 ghost use Rattle.ven_io.specs.Pieces.{AppendsPart};
 
@@ -31,7 +31,7 @@ fn read_piece<R: Read>(
 }
 
 /// The reader's first `limit` bytes, or all where there are fewer. Failed at the first read that fails.
-pub fn read_first<R: Read>(
+pub(crate) fn read_first<R: Read>(
     reader: &mut R,
     alloc: Global,
     limit: usize,
@@ -54,7 +54,7 @@ pub fn read_first<R: Read>(
 
 /// Writes all the bytes, and flushes. Failed at the first write that fails or takes nothing of what is left,
 /// and at a flush that fails; then a prefix of the bytes was written.
-pub fn write_whole<W: Write>(writer: &mut W, bytes: &[u8]) -> Result<(), OutFault>
+pub(crate) fn write_whole<W: Write>(writer: &mut W, bytes: &[u8]) -> Result<(), OutFault>
     ensures whole { OnOk result (Appends (W.contents writer.old) (W.contents writer.new) bytes.now) }
     ensures part { OnErr result (AppendsPart (W.contents writer.old) (W.contents writer.new) bytes.now) }
     ensures fault { IsOkUnless result OutFault.Failed }

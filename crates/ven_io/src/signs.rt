@@ -1,6 +1,6 @@
 //! Signs of one or two bytes.
 
-ghost use Rattle.std.specs.Prelude.{◌≡◌, ◌+◌, ◌<◌, length, slice_index, MatchOption, IsFalse};
+ghost use Rattle.std.specs.Prelude.{◌≡◌, ◌+◌, ◌<◌};
 ghost use Rattle.ven_io.specs.Signs.{is_single_sign, is_double_sign};
 
 const SINGLE_SIGNS: &[u8] = b"+-*&|^~()[],;=<>:";

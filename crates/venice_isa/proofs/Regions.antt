@@ -117,12 +117,3 @@ end_from_below region end some_rows some_columns some_bytes below =
     let at : IsAt region r j p = record { row = omega arith; column = omega arith; from = omega arith; below = omega arith } in
     let last : p < end = below p (r, j, at) in
     omega (arith, one_fewer region.columns region.size some_columns)
-
--- a region without bytes lies below every end
-pub below_of_nothing : (region : Region) (end : ℕ) → (region.rows ≡ 0) ⊎ ((region.columns ≡ 0) ⊎ (region.size ≡ 0)) → LiesBelow region end
-below_of_nothing region end nothing p covered =
-    let at = covered.2 in
-    elim nothing [
-      | inl no_rows ↦ absurd (omega (arith, at.row))
-      | inr less ↦ elim less [ inl no_columns ↦ absurd (omega (arith, at.column)) | inr no_bytes ↦ absurd (omega (arith, at.from, at.below)) ]
-    ]

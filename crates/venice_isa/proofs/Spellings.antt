@@ -14,7 +14,7 @@ use Rattle.ven_base.specs.Operation.{bits_of}
 use Rattle.ven_base.proofs.Congruence.{AreCongruent-sym, AreCongruent-trans, euclid, rem_range, near_same}
 use Rattle.ven_base.proofs.Wrapped.{modulus_pos, IsWrapped-is, IsWrapped-wrapped}
 use Rattle.venice_isa.specs.Element.{little_endian, low_bytes, bytes_of}
-use Rattle.venice_isa.specs.Laws.{IsSpelling}
+use Rattle.venice_isa.specs.Laws.{SpellsNumber}
 
 -- ---- lists of bytes and natural numbers
 
@@ -101,7 +101,7 @@ wrap_bits elem bits below =
     (omega (arith, ints)) (omega (arith, ints, bits_below elem n)) (omega (arith, ints)) (omega (arith, ints)) in
     omega (arith, ints, same)
 
-pub bytes_spell : (elem : Elem) (n : ℤ) → IsElement elem n → IsSpelling elem n (bytes_of elem n)
+pub bytes_spell : (elem : Elem) (n : ℤ) → IsElement elem n → SpellsNumber elem n (bytes_of elem n)
 bytes_spell elem n range =
     let fits : bits_of elem n < 256 ^ size_of elem = omega (arith, bits_below elem n, byte_power elem) in
     record {
@@ -110,7 +110,7 @@ bytes_spell elem n range =
       number = ap (λ bits. wrapped elem (pos bits)) (low_bytes_spell (size_of elem) (bits_of elem n) fits) ∙ bits_wrap elem n range;
     }
 
-pub one_spelling : (elem : Elem) (n : ℤ) (bytes : List ℕ) → IsSpelling elem n bytes → bytes ≡ bytes_of elem n
+pub one_spelling : (elem : Elem) (n : ℤ) (bytes : List ℕ) → SpellsNumber elem n bytes → bytes ≡ bytes_of elem n
 one_spelling elem n bytes spelling =
     let below : little_endian bytes < modulus_of elem = omega (arith, spelled_below bytes spelling.each, ap (λ k. 256 ^ k) spelling.count, byte_power elem) in
     let bits : bits_of elem n ≡ little_endian bytes = ap (bits_of elem) (sym spelling.number) ∙ wrap_bits elem (little_endian bytes) below in

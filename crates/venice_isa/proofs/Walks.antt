@@ -1,6 +1,6 @@
 -- How walks and beats come on: by a group, to the next row, and to the end.
-use Rattle.std.proofs.Common.{◌≡◌, ℕ, ◌+◌, ◌-◌, ◌*◌, ◌/◌, ◌%◌, ◌^◌, ◌<◌, ◌≤◌, inl, inr, ap, sym, ◌∙◌, arith, min}
-use Rattle.std.proofs.lemmas.Nat.{div-add-mod', mod_below, div-mul-add, mod-mul-add}
+use Rattle.std.proofs.Common.{◌≡◌, ℕ, ◌+◌, ◌-◌, ◌*◌, ◌/◌, ◌%◌, ◌^◌, ◌<◌, ◌≤◌, inl, inr, sym, arith, min}
+use Rattle.std.proofs.lemmas.Nat.{div-add-mod', mod_below}
 use Rattle.std.proofs.Math.Nat.{mul-le-mul_left, mul-le-mul_right}
 use Rattle.venice_isa.specs.declared.region.Region.{Region}
 use Rattle.venice_isa.specs.declared.walk.Walk.{Walk}
@@ -47,20 +47,6 @@ module _ (region : Region) (group row first : ℕ) (walk : Walk) (is : IsWalk re
 -- ---- beats
 
 module _ (rows items group : ℕ) (some_rows : 0 < rows) (some_items : 0 < items) (some : 0 < group) where
-  -- beats begin at the first item
-  pub come_to_begin : HasCome rows items group 0 0 0
-  come_to_begin =
-      let beats = beats_of_row items group in
-      let some_beat = some_beats items group some_items some in
-      let start : 0 ≡ 0 * beats + 0 = omega arith in
-      let place : 0 % beats ≡ 0 = ap (λ n. n % beats) start ∙ mod-mul-add 0 beats 0 some_beat in
-      let rows_of_one : rows * 1 ≤ rows * beats = mul-le-mul_left rows some_beat in
-      record {
-        more = omega (arith, rows_of_one);
-        row_is = sym (ap (λ n. n / beats) start ∙ div-mul-add 0 beats 0 some_beat);
-        first_is = sym (ap (λ n. n * group) place ∙ (omega arith));
-      }
-
   -- a beat whose row is one of the rows is one of theirs
   beat_below : (n : ℕ) → (group_at items group n).row < rows → n < rows * beats_of_row items group
   beat_below n in_rows =

@@ -27,11 +27,6 @@ read_into work memory cells = with_rows_copied clear (memory_of work) (cells_of 
 unfoldable pub written_back : DmaWork → List Cell → List ℕ → List ℕ
 written_back work cells memory = with_rows_copied byte_of (cells_of work) (memory_of work) cells work.rows memory
 
--- no count is 0
-pub record HasRows (work : DmaWork) : Type 0 where
-  pub bytes : 0 < work.bytes
-  pub rows : 0 < work.rows
-
 -- a list is another with a region copied into it: it is as long, keeps what is no byte of the region, and
 -- has each byte of the source's region, as it is copied, at its place, where no row reaches into the next.
 -- `missing` and `nothing` are what is said to stand past the end of the source and of the list

@@ -1,4 +1,4 @@
--- Laws of the machine's work, each carried by a public function of the module `laws`.
+-- Laws of the machine's work, each the contract of a public function.
 use Rattle.std.specs.Prelude.{◌≡◌, ℕ, ◌<◌, ◌^◌, ℤ, false, List, length, All}
 use Rattle.ven_base.specs.declared.elem.Elem.{Elem}
 use Rattle.ven_base.specs.Elem.{size_of, IsElement}
@@ -23,12 +23,15 @@ RowsApartKeepElementsApart = (region : Region) → HasRowsApart region → HasEl
 -- an instruction's effect leaves each cell outside its write footprint
 abbrev pub WholeWritesItsFootprint : Type 0
 WholeWritesItsFootprint =
-    (work : VecWork) (before after : List Cell) → IsWhole work before after → (p : ℕ) → ¬ WritesCell (Vector work) p → cell_at after p ≡ cell_at before p
+    (work : VecWork) (before after : List Cell) → IsWhole work before after
+    → (p : ℕ) → ¬ WritesCell (Vector work) p → cell_at after p ≡ cell_at before p
 
 -- what it writes depends only on the cells of its read footprint
 abbrev pub WholeReadsItsFootprint : Type 0
 WholeReadsItsFootprint =
-    (work : VecWork) (before after before' after' : List Cell) → IsWhole work before after → IsWhole work before' after' → length before' ≡ length before → ((p : ℕ) → ReadsCell (Vector work) p → cell_at before' p ≡ cell_at before p) → (p : ℕ) → WritesCell (Vector work) p → cell_at after' p ≡ cell_at after p
+    (work : VecWork) (before after before' after' : List Cell) → IsWhole work before after → IsWhole work before' after'
+    → length before' ≡ length before → ((p : ℕ) → ReadsCell (Vector work) p → cell_at before' p ≡ cell_at before p)
+    → (p : ℕ) → WritesCell (Vector work) p → cell_at after' p ≡ cell_at after p
 
 -- the cells before determine the cells after
 abbrev pub WholeIsDetermined : Type 0
@@ -38,32 +41,38 @@ WholeIsDetermined =
 -- a read copies its bytes of memory to their cells, and changes no other cell
 abbrev pub ReadCopiesItsRows : Type 0
 ReadCopiesItsRows =
-    (work : DmaWork) (memory : List ℕ) (cells : List Cell) → LiesBelow (memory_of work) (length memory) → LiesBelow (cells_of work) (length cells) → IsCopied clear 0 (0, false) (memory_of work) (cells_of work) memory cells (read_into work memory cells)
+    (work : DmaWork) (memory : List ℕ) (cells : List Cell) → LiesBelow (memory_of work) (length memory) → LiesBelow (cells_of work) (length cells)
+    → IsCopied clear 0 (0, false) (memory_of work) (cells_of work) memory cells (read_into work memory cells)
 
 -- a write copies the bytes of its cells to their places in memory, and changes no other byte
 abbrev pub WriteCopiesItsRows : Type 0
 WriteCopiesItsRows =
-    (work : DmaWork) (cells : List Cell) (memory : List ℕ) → LiesBelow (cells_of work) (length cells) → LiesBelow (memory_of work) (length memory) → IsCopied byte_of (0, false) 0 (cells_of work) (memory_of work) cells memory (written_back work cells memory)
+    (work : DmaWork) (cells : List Cell) (memory : List ℕ) → LiesBelow (cells_of work) (length cells) → LiesBelow (memory_of work) (length memory)
+    → IsCopied byte_of (0, false) 0 (cells_of work) (memory_of work) cells memory (written_back work cells memory)
 
 -- the bytes of a number of a type spell that number: as many as an element has, each below 256
-pub record IsSpelling (elem : Elem) (n : ℤ) (bytes : List ℕ) : Type 0 where
+pub record SpellsNumber (elem : Elem) (n : ℤ) (bytes : List ℕ) : Type 0 where
   pub count : length bytes ≡ size_of elem
   pub each : All (λ byte. byte < 2 ^ 8) bytes
   pub number : number_of elem bytes ≡ n
 
 abbrev pub BytesSpellTheirNumber : Type 0
-BytesSpellTheirNumber = (elem : Elem) (n : ℤ) → IsElement elem n → IsSpelling elem n (bytes_of elem n)
+BytesSpellTheirNumber = (elem : Elem) (n : ℤ) → IsElement elem n → SpellsNumber elem n (bytes_of elem n)
 
 -- and a number has one spelling
 abbrev pub NumbersHaveOneSpelling : Type 0
-NumbersHaveOneSpelling = (elem : Elem) (n : ℤ) (bytes : List ℕ) → IsSpelling elem n bytes → bytes ≡ bytes_of elem n
+NumbersHaveOneSpelling = (elem : Elem) (n : ℤ) (bytes : List ℕ) → SpellsNumber elem n bytes → bytes ≡ bytes_of elem n
 
 -- whatever the number of lanes, the beats of a simple instruction in range together are its whole effect
 abbrev pub BeatsAreTheWhole : Type 0
 BeatsAreTheWhole =
-    (work : VecWork) (lanes : ℕ) (store : Store) → IsSimple work → 0 < lanes → IsInRange (Vector work) (length store.cells) (length store.memory) → DoesOne (Vector work) store (after_all_beats (Vector work) lanes store)
+    (work : VecWork) (lanes : ℕ) (store : Store)
+    → IsSimple work → 0 < lanes → IsInRange (Vector work) (length store.cells) (length store.memory)
+    → DoesOne (Vector work) store (after_all_beats (Vector work) lanes store)
 
 -- the beats of a transfer in range together are its copy
 abbrev pub BeatsAreTheCopy : Type 0
 BeatsAreTheCopy =
-    (work : DmaWork) (lanes : ℕ) (store : Store) → (IsInRange (Read work) (length store.cells) (length store.memory) → DoesOne (Read work) store (after_all_beats (Read work) lanes store)) × (IsInRange (Write work) (length store.cells) (length store.memory) → DoesOne (Write work) store (after_all_beats (Write work) lanes store))
+    (work : DmaWork) (lanes : ℕ) (store : Store)
+    → (IsInRange (Read work) (length store.cells) (length store.memory) → DoesOne (Read work) store (after_all_beats (Read work) lanes store))
+    × (IsInRange (Write work) (length store.cells) (length store.memory) → DoesOne (Write work) store (after_all_beats (Write work) lanes store))

@@ -25,7 +25,6 @@ pub struct VecKind {
 
 impl VecKind {
     ghost use Rattle.std.specs.Prelude.{◌<◌, ◌≤◌, ◌↔◌, IsSome, IfSome, max};
-    ghost use Rattle.ven_base.specs.Elem.{size_of};
     ghost use Rattle.venice_isa.specs.Mode.{IsMode};
     ghost use Rattle.venice_isa.specs.Parts.{HasParts};
     ghost use Rattle.venice_isa.specs.Beat.{lane_group};

@@ -5,13 +5,13 @@
 //! `Element` how bytes spell numbers, `Answer` what an operation answers, `Footprint` which bytes a
 //! work reads and writes, `Whole` what a vector instruction does as one simultaneous map, `Copy`
 //! what a transfer does, `Beat` how both go beat by beat, and `Does` what a list of issues does, one
-//! after another. The module `laws` has what is proved of them.
+//! after another. The functions of `laws` say what is proved of them.
 #![tactic(auto)]
 
 mod answer;
 mod issue;
 mod kind;
-pub mod laws;
+mod laws;
 mod op;
 mod region;
 mod walk;
@@ -20,6 +20,11 @@ mod work;
 pub use answer::{result_of, sets_flag};
 pub use issue::Issue;
 pub use kind::VecKind;
+pub use laws::{
+    beats_are_the_copy, beats_are_the_whole, bytes_spell_their_number, numbers_have_one_spelling,
+    read_copies_its_rows, rows_apart_keep_elements_apart, whole_is_determined,
+    whole_reads_its_footprint, whole_writes_its_footprint, write_copies_its_rows,
+};
 pub use op::VecOp;
 pub use region::Region;
 pub use walk::Walk;

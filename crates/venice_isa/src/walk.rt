@@ -31,7 +31,7 @@ impl Walk {
         }
     }
 
-    /// Goes on by a whole group.
+    /// Goes on by a whole group. Condition: `next` is below 2^63.
     pub fn go_on(&mut self)
         requires { self.old.next < 2 ^ 63 }
         ensures { self.new ≡ record self.old { next = self.old.next + self.old.group } }
@@ -39,7 +39,7 @@ impl Walk {
         self.next += u64::from(self.group);
     }
 
-    /// Goes on to the beginning of the next row.
+    /// Goes on to the beginning of the next row. Condition: `row` is below 2^32.
     pub fn next_row(&mut self)
         requires { self.old.row < 2 ^ 32 }
         ensures { self.new ≡ record self.old { row = self.old.row + self.old.step; next = self.old.row + self.old.step } }

@@ -3,7 +3,7 @@ use Rattle.ven_base.specs.Elem.{size_of}
 use Rattle.spad_store.specs.Cells.{flag_at}
 use Rattle.venice_isa.proofs.Wholes.{size_positive}
 use Rattle.lane_machine.proofs.Elements.{element_in}
-use Rattle.lane_machine.proofs.Begins.{begins_more}
+use Rattle.lane_machine.proofs.FirstItems.{first_more}
 use Rattle.lane_machine.proofs.element.flags_at.Goals as goal
 
 pub overflow_add-end : goal.overflow_add-end
@@ -25,5 +25,5 @@ loop-i-preserved c =
     let loop = c.loop-i.invariant in
     record {
       at_is = omega (arith, loop.at_is, c.size-size.ensures, ap (λ n. c.loop-i.i * n) c.size-size.ensures);
-      flags = begins_more (λ k. flag_at cells (c.args.place + k * size_of elem)) c.loop-i.i c.loop-i.flags _ (omega arith) loop.flags (c.flag.ensures ∙ ap (flag_at cells) loop.at_is);
+      flags = first_more (λ k. flag_at cells (c.args.place + k * size_of elem)) c.loop-i.i c.loop-i.flags _ (omega arith) loop.flags (c.flag.ensures ∙ ap (flag_at cells) loop.at_is);
     }

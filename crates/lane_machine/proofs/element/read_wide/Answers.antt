@@ -5,7 +5,7 @@ use Rattle.ven_base.specs.Wrap.{wrapped}
 use Rattle.venice_isa.specs.Cell.{byte_of, part}
 use Rattle.venice_isa.specs.Element.{little_endian, number_at}
 use Rattle.lane_machine.proofs.Elements.{element_in}
-use Rattle.lane_machine.proofs.Begins.{begins_more}
+use Rattle.lane_machine.proofs.FirstItems.{first_more}
 use Rattle.lane_machine.proofs.element.read_wide.Goals as goal
 
 pub bits-requires-clause-inside : goal.bits-requires-clause-inside
@@ -33,5 +33,5 @@ loop-i-preserved g c =
     ∙ ap (number_at elem cells) loop.at_is in
     record {
       at_is = omega (arith, c.requires.width, loop.at_is, c.SIZE-at.ensures);
-      numbers = begins_more (λ k. number_at elem cells (c.args.place + k * size_of elem)) c.loop-i.i c.loop-i.numbers _ (omega arith) loop.numbers number;
+      numbers = first_more (λ k. number_at elem cells (c.args.place + k * size_of elem)) c.loop-i.i c.loop-i.numbers _ (omega arith) loop.numbers number;
     }

@@ -1,6 +1,6 @@
 use Rattle.std.proofs.Common.{arith, ap, sym, ◌∙◌, ◌≡◌, subst, ◌+◌, length, get_or, map, ℕ, ℤ, false, pos, w64, to_z, of_z}
 use Rattle.std.proofs.lemmas.Bool.{not-true, not-false}
-use Rattle.ven_base.specs.Elem.{size_of, IsElement}
+use Rattle.ven_base.specs.Elem.{size_of}
 use Rattle.venice_isa.specs.Cell.{overwritten}
 use Rattle.venice_isa.specs.Region.{place_in}
 use Rattle.venice_isa.specs.Element.{low_bytes, spelled}
@@ -8,7 +8,7 @@ use Rattle.venice_isa.specs.Footprint.{destination}
 use Rattle.venice_isa.specs.Whole.{result_at, flag_for}
 use Rattle.venice_isa.proofs.Walks.{walk_place}
 use Rattle.lane_machine.specs.Group.{results_from, is_written_from}
-use Rattle.lane_machine.proofs.Begins.{begins_at}
+use Rattle.lane_machine.proofs.FirstItems.{first_at}
 use Rattle.lane_machine.proofs.Elements.{element_in}
 use Rattle.lane_machine.proofs.Places.{dst_ends}
 use Rattle.lane_machine.proofs.Groups.{IsPut, put_more, put_nothing, number_read, result_at_in_type}
@@ -19,14 +19,6 @@ pub overflow_cast-place : goal.overflow_cast-place
 overflow_cast-place g c =
     let all = dst_ends c.args.work.now c.args.current.now c.requires.placed (length c.args.cells.now) c.requires.inside c.args.count c.requires.some c.requires.in_row c.requires.no_sum in
     omega (arith, all, c.requires.small)
-
-pub bits_of-requires : goal.bits_of-requires
-bits_of-requires g c =
-    let work = c.args.work.now in
-    let current = c.args.current.now in
-    let cells = c.args.cells.now in
-    let in_type = result_at_in_type work cells current.row (current.first + c.loop-i.i) in
-    subst (IsElement work.kind.elem) (sym (number_read work.kind.elem (results_from work cells current.row current.first) c.args.count c.args.results.now c.loop-i.i c.requires.results c.loop-i-test.true in_type)) in_type
 
 pub put-requires-clause-inside : goal.put-requires-clause-inside
 put-requires-clause-inside g c =
@@ -60,7 +52,7 @@ loop-i-preserved g c =
     let result = result_at work before current.row column in
     let passed : ℤ = to_z w64 (of_z w64 (get_or c.args.results.now i (pos 0))) in
     let read : passed ≡ result = number_read elem (results_from work before current.row current.first) c.args.count c.args.results.now i c.requires.results c.loop-i-test.true (result_at_in_type work before current.row column) in
-    let is_written = begins_at (is_written_from work before current.row current.first) c.args.count c.args.written.now false i c.requires.written c.loop-i-test.true in
+    let is_written = first_at (is_written_from work before current.row current.first) c.args.count c.args.written.now false i c.requires.written c.loop-i-test.true in
     let put : IsPut work before c.if-written-i.cells current.row current.first (i + 1) =
     elim c.if-written-i.branch [
       | then-written-i w ↦
@@ -68,7 +60,7 @@ loop-i-preserved g c =
           let is : c.if-written-i.cells ≡ overwritten cells here (spelled elem result (flag_for work.kind result)) = w.cells-is
           ∙ w.put.ensures
           ∙ ap (λ size. overwritten cells c.loop-i.place (map (λ (byte : ℕ). (byte, w.sets_flag-flag.result)) (low_bytes size w.bits_of.result))) c.requires.width
-          ∙ ap (λ bits. overwritten cells c.loop-i.place (map (λ (byte : ℕ). (byte, w.sets_flag-flag.result)) (low_bytes (size_of elem) bits))) w.bits_of.ensures
+          ∙ ap (λ bits. overwritten cells c.loop-i.place (map (λ (byte : ℕ). (byte, w.sets_flag-flag.result)) (low_bytes (size_of elem) bits))) w.bits_of.ensures.value
           ∙ ap (λ flag. overwritten cells c.loop-i.place (spelled elem passed flag)) w.sets_flag-flag.ensures
           ∙ ap (λ p. overwritten cells p (spelled elem passed (flag_for work.kind passed))) place
           ∙ ap (λ n. overwritten cells here (spelled elem n (flag_for work.kind n))) read in

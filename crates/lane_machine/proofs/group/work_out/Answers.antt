@@ -8,7 +8,7 @@ use Rattle.venice_isa.specs.Whole.{result_at, number_of_a, number_of_b}
 use Rattle.venice_isa.proofs.Wholes.{result_without_b}
 use Rattle.lane_machine.specs.Operand.{number_in}
 use Rattle.lane_machine.specs.Group.{results_from}
-use Rattle.lane_machine.proofs.Begins.{begins_none, begins_more, left_kept}
+use Rattle.lane_machine.proofs.FirstItems.{first_none, first_more, left_kept}
 use Rattle.lane_machine.proofs.Places.{a_ends, b_ends, a_number, b_number, a_in_type, b_in_type}
 use Rattle.lane_machine.proofs.Groups.{number_read, number_read_at}
 use Rattle.lane_machine.proofs.group.work_out.Goals as goal
@@ -27,7 +27,7 @@ loop-i-init c =
     let current = c.args.current.now in
     let read = c.read.ensures in
     record {
-      done = begins_none (results_from work c.args.cells.now current.row current.first) c.read.new.numbers read.long;
+      done = first_none (results_from work c.args.cells.now current.row current.first) c.read.new.numbers read.long;
       left = λ k from below. read.each k below;
     }
 
@@ -74,6 +74,6 @@ loop-i-preserved c =
       | inr unused ↦ result_without_b work.kind a b passed_b unused
     ] in
     record {
-      done = begins_more (results_from work cells current.row current.first) i c.loop-i.results _ (omega arith) loop.done result;
+      done = first_more (results_from work cells current.row current.first) i c.loop-i.results _ (omega arith) loop.done result;
       left = left_kept (number_in from current.a cells) i c.args.count c.loop-i.results _ loop.left;
     }
