@@ -27,7 +27,7 @@ fn main(rt: HostRuntime) -> ExitCode {
     ExitCode::from(status_of(alloc, words, &mut files, &mut out))
 }
 
-// The words after the program's name.
+/// The words after the program's name.
 fn words_of(rt: &HostRuntime, alloc: Global) -> io::Result<Vec<String>> {
     let mut words = Vec::new(alloc);
     for word in env::args(rt)?.skip(1) {
@@ -36,7 +36,7 @@ fn words_of(rt: &HostRuntime, alloc: Global) -> io::Result<Vec<String>> {
     Ok(words)
 }
 
-// The status that the words lead to: the top call's, over what it is handed.
+/// The status that the words lead to: the top call's, over what it is handed.
 fn status_of<F: Files, S: Sink>(
     alloc: Global,
     words: io::Result<Vec<String>>,

@@ -1,11 +1,9 @@
 //! The sums of two arrays, made by the tile.
 
 ghost use Rattle.std.specs.Prelude.{◌≡◌, ◌+◌, ◌≤◌, length, map, pos, IfOk};
-ghost use Rattle.venice_isa.specs.Cell.{part, overwritten};
+ghost use Rattle.venice_isa.specs.Cell.{part};
 ghost use Rattle.venice_run.specs.Output.{sums_of};
-ghost use Rattle.venice_run.specs.Tile.{second_place, sum_place, sum_cell};
-ghost use Rattle.venice_run.specs.TileLaw.{IsLaidOut};
-ghost use Rattle.venice_run.specs.Executor.{store_of};
+ghost use Rattle.venice_run.specs.Tile.{second_place, sum_place};
 
 use crate::executor::{do_list, overwrite, part};
 use crate::tile::{one_tile, second_place, sum_place};
@@ -31,7 +29,7 @@ pub(crate) fn sums_by_tile(
     numbers(alloc, part(&memory, sum_place(cols), cols))
 }
 
-// Memory that holds the two arrays at their places, and has room for the sums.
+/// Memory that holds the two arrays at their places, and has room for the sums.
 fn laid_out(alloc: Global, first: &[u8], second: &[u8]) -> Result<Vec<u8>, AllocError>
     requires some { 1 ≤ length first.now }
     requires few { length first.now ≤ 2048 }
@@ -47,7 +45,7 @@ fn laid_out(alloc: Global, first: &[u8], second: &[u8]) -> Result<Vec<u8>, Alloc
     Ok(memory)
 }
 
-// The numbers that bytes are.
+/// The numbers that bytes are.
 fn numbers(alloc: Global, bytes: &[u8]) -> Result<Vec<i64>, AllocError>
     ensures { IfOk result (λ numbers. numbers.items ≡ map pos bytes.now) }
 {

@@ -88,7 +88,7 @@ fn row_addition(vl: u32, dst: u32, a: u32, b: u32) -> VecWork
     }
 }
 
-// The addition of bytes to bytes.
+/// The addition of bytes to bytes.
 fn add_bytes() -> VecKind
     ensures { result ≡ add_bytes }
 {
