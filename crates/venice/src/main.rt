@@ -2,10 +2,13 @@
 //! the status that comes back.
 #![tactic(auto)]
 
-ghost use Rattle.std.specs.Prelude.{◌≡◌, ◌≢◌, IfOk, OnErr};
+ghost use Rattle.std.specs.Prelude.{◌≡◌, ◌≢◌, ◌⊎◌, IfOk, OnErr};
 ghost use Rattle.ven_io.specs.Faults.{Rose};
+ghost use Rattle.ven_io.specs.Sink.{Takes};
 ghost use Rattle.venice_run.specs.Words.{texts_of};
-ghost use Rattle.venice_run.specs.Ending.{TakesReply};
+ghost use Rattle.venice_run.specs.Refusal.{line_of};
+ghost use Rattle.venice_run.specs.Ending.{TakesReply, TakesPartOfAny, TakesLinesOfAny};
+ghost use Rattle.venice_run.specs.declared.refusal.Refusal.TheVariants.{File, Memory};
 
 use std::alloc::Global;
 use std::process::ExitCode;
@@ -24,7 +27,7 @@ fn main(rt: HostRuntime) -> ExitCode {
     ExitCode::from(status_of(alloc, words, &mut files, &mut out))
 }
 
-// The words after the program's name.
+/// The words after the program's name.
 fn words_of(rt: &HostRuntime, alloc: Global) -> io::Result<Vec<String>> {
     let mut words = Vec::new(alloc);
     for word in env::args(rt)?.skip(1) {
@@ -33,7 +36,7 @@ fn words_of(rt: &HostRuntime, alloc: Global) -> io::Result<Vec<String>> {
     Ok(words)
 }
 
-// The status that the words lead to: the top call's, over what it is handed.
+/// The status that the words lead to: the top call's, over what it is handed.
 fn status_of<F: Files, S: Sink>(
     alloc: Global,
     words: io::Result<Vec<String>>,
@@ -54,6 +57,25 @@ fn status_of<F: Files, S: Sink>(
     ensures quiet { IfOk words (λ given. result ≢ 8 → result ≢ 9 → result ≢ 10
         → (F.load_faults files.new ≡ F.load_faults files.old) × (S.faults out.new ≡ S.faults out.old)
         × TakesReply (texts_of given.items) (F.held files.old) (F.held files.new) (S.taken out.old) (S.taken out.new) result) }
+
+    // A file isn't there, and no load failed; or one did.
+    ensures file { IfOk words (λ given. result ≡ 8 → (S.faults out.new ≡ S.faults out.old)
+        × (((F.load_faults files.new ≡ F.load_faults files.old)
+        × TakesReply (texts_of given.items) (F.held files.old) (F.held files.new) (S.taken out.old) (S.taken out.new) 8)
+        ⊎ (Rose (F.load_faults files.old) (F.load_faults files.new) × Takes (S.taken out.old) (S.taken out.new) (line_of File)))) }
+
+    // A put failed.
+    ensures put { IfOk words (λ given. result ≡ 9 → Rose (S.faults out.old) (S.faults out.new)
+        × TakesPartOfAny (texts_of given.items) (F.held files.old) (F.load_faults files.old) (F.load_faults files.new) (S.taken out.old) (S.taken out.new)) }
+
+    // Memory ran out.
+    ensures memory { IfOk words (λ given. result ≡ 10 → (S.faults out.new ≡ S.faults out.old)
+        × (Takes (S.taken out.old) (S.taken out.new) (line_of Memory)
+        ⊎ TakesLinesOfAny (texts_of given.items) (F.held files.old) (F.load_faults files.old) (F.load_faults files.new) (S.taken out.old) (S.taken out.new))) }
+
+    // The program changes no file.
+    ensures held { F.held files.new ≡ F.held files.old }
+    ensures saves { F.save_faults files.new ≡ F.save_faults files.old }
 {
     match words {
         Ok(words) => venice(alloc, &words, files, out),

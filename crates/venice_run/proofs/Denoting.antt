@@ -8,20 +8,14 @@ use Rattle.ven_io.proofs.Lexed.{one_lexing_holds}
 use Rattle.venice_run.specs.Items.{HasSmallNumbers}
 use Rattle.venice_run.specs.Addition.{Addition, Operands, IsAddition, AreValues, DenotesAddition, DenotesOperands, program_lexemes, operand_lexemes, array_lexemes, text_limit}
 
--- no program of the form is among lexemes of which none with small numbers is the text's
-small_program : (a : Addition) → IsAddition a → HasSmallNumbers (program_lexemes a)
-small_program a is = (omega arith, (omega (arith, is.few_columns), (omega arith, (omega (arith, is.few_columns), tt))))
-
-pub no_program_lexed : (text : List ℕ) → ((lexemes : List Lexeme) → length text ≤ text_limit → HasSmallNumbers lexemes → ¬ IsLexed text lexemes) → (a : Addition) → ¬ DenotesAddition text a
-no_program_lexed text none a denotes = none (program_lexemes a) denotes.short (small_program a denotes.is_addition) denotes.lexemes
-
+-- a text whose lexemes are no program's denotes none
 pub no_program : (text : List ℕ) (lexemes : List Lexeme) → IsLexed text lexemes → ((a : Addition) → IsAddition a → lexemes ≡ program_lexemes a → ⊥) → (a : Addition) → ¬ DenotesAddition text a
 no_program text lexemes lexed none a denotes = none a denotes.is_addition (one_lexing_holds text lexemes (program_lexemes a) lexed denotes.lexemes)
 
 pub is_program : (text : List ℕ) (lexemes : List Lexeme) (a : Addition) → length text ≤ 65536 → IsLexed text lexemes → IsAddition a → lexemes ≡ program_lexemes a → DenotesAddition text a
 is_program text lexemes a short lexed is same = record { short = short; lexemes = subst (IsLexed text) same lexed; is_addition = is }
 
--- the same of the file of the inputs
+-- a text gives no values where no lexemes with small numbers are its own, or the ones that are give none
 small_values : (vs : List ℕ) (rest : List Lexeme) → AllByRecursion (λ v. v < 256) vs → HasSmallNumbers rest → HasSmallNumbers (map Number vs ++ rest)
 small_values [] rest small h = h
 small_values (v ∷ vs) rest small h = (omega (arith, small.0), small_values vs rest small.1 h)
@@ -40,7 +34,3 @@ no_operands_lexed text a is none v denotes = none (operand_lexemes a v) denotes.
 pub no_operands : (text : List ℕ) (a : Addition) (lexemes : List Lexeme) → IsLexed text lexemes
     → ((v : Operands) → AreValues a.columns v.first → AreValues a.columns v.second → lexemes ≡ operand_lexemes a v → ⊥) → (v : Operands) → ¬ DenotesOperands text a v
 no_operands text a lexemes lexed none v denotes = none v denotes.first denotes.second (one_lexing_holds text lexemes (operand_lexemes a v) lexed denotes.lexemes)
-
-pub are_operands : (text : List ℕ) (a : Addition) (lexemes : List Lexeme) (v : Operands) → length text ≤ 65536 → IsLexed text lexemes
-    → AreValues a.columns v.first → AreValues a.columns v.second → lexemes ≡ operand_lexemes a v → DenotesOperands text a v
-are_operands text a lexemes v short lexed first second same = record { short = short; lexemes = subst (IsLexed text) same lexed; first = first; second = second }

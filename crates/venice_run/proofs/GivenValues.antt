@@ -1,8 +1,8 @@
 -- The lexemes of arrays, cut where their parts meet.
-use Rattle.std.proofs.Common.{◌≡◌, ℕ, ◌+◌, ◌<◌, List, [], ◌∷◌, ◌++◌, map, take, drop, length, get_or, refl, sym, ap, ◌∙◌, arith, length-drop, take-append-drop, Vec, Option, Some, None, Result, Ok, Err}
+use Rattle.std.proofs.Common.{◌≡◌, ℕ, ◌+◌, ◌<◌, List, ◌++◌, map, take, drop, length, get_or, refl, sym, ap, ◌∙◌, arith, length-drop, take-append-drop, Vec, Option, Some, None, Result, Ok, Err}
 use Rattle.std.specs.Prelude.{All, IfOk, MatchOption}
 use Rattle.std.specs.declared.alloc.Global.{Global}
-use Rattle.std.proofs.lemmas.List.{map_more, take-map, drop-map, take_at, drop_at, length-map, get_or-map, map-append}
+use Rattle.std.proofs.lemmas.List.{take-map, drop-map, take_at, drop_at, length-map, get_or-map, map-append}
 use Rattle.ven_io.specs.Lexemes.{Lexeme, Number}
 use Rattle.venice_run.specs.declared.items.Item.{Item}
 use Rattle.venice_run.specs.Items.{lexeme_of, lexemes_of}
@@ -11,11 +11,6 @@ use Rattle.venice_run.specs.Addition.{heading_lexemes, array_lexemes, operand_le
 
 numbers : List ℕ → List Lexeme
 numbers vs = map Number vs
-
--- one value more
-pub push_value : (items : List Item) (i : ℕ) (d : Item) (vs : List ℕ) (n : ℕ) → i < length items → lexeme_of (get_or items i d) ≡ Number n
-    → lexemes_of (take i items) ≡ map Number vs → lexemes_of (take (i + 1) items) ≡ map Number (vs ++ n ∷ [])
-push_value items i d vs n lt is so_far = map_more lexeme_of items i d lt ∙ rw (so_far, is) (sym (map-append Number vs (n ∷ [])))
 
 same_length : (items : List Item) (vs : List ℕ) → lexemes_of items ≡ map Number vs → length items ≡ length vs
 same_length items vs is = sym (length-map items lexeme_of) ∙ ap length is ∙ length-map vs Number
@@ -36,16 +31,9 @@ pub array_is : (items : List Item) (name : List ℕ) (columns : ℕ) (vs : List 
     → lexemes_of (drop 7 items) ≡ map Number vs → lexemes_of items ≡ array_lexemes name columns vs
 array_is items name columns vs front back = lexemes-append items 7 ∙ rw (front, back) refl
 
-pub heading_is : (items : List Item) (name : List ℕ) (columns : ℕ) (vs : List ℕ) → lexemes_of items ≡ array_lexemes name columns vs
-    → lexemes_of (take 7 items) ≡ heading_lexemes name columns
-heading_is items name columns vs is = sym (take-map lexeme_of 7 items) ∙ ap (take 7) is
-
 pub values_are : (items : List Item) (name : List ℕ) (columns : ℕ) (vs : List ℕ) → lexemes_of items ≡ array_lexemes name columns vs
     → lexemes_of (drop 7 items) ≡ map Number vs
 values_are items name columns vs is = sym (drop-map lexeme_of 7 items) ∙ ap (drop 7) is
-
-pub count_is : (items : List Item) (columns : ℕ) (vs : List ℕ) → length items ≡ 7 + columns → lexemes_of (drop 7 items) ≡ map Number vs → length (drop 7 items) ≡ columns → length vs ≡ columns
-count_is items columns vs len is back = sym (same_length (drop 7 items) vs is) ∙ back
 
 -- two lists of lexemes, cut where they meet
 module _ (items : List Item) (front back : List Lexeme) (half : ℕ) (is : lexemes_of items ≡ front ++ back) (len : length front ≡ half) where

@@ -10,10 +10,6 @@ use Rattle.ven_io.specs.Lexemes.{Lexeme, Word, Number, Sign, LexedAs, IsLexed}
 use Rattle.ven_io.proofs.Lexed.{lexes_by_tokens, lexes_nothing_at_faults}
 use Rattle.venice_run.specs.Items.{HasSmallNumbers, Begins, AreBefore}
 
--- no lexeme stands before the first
-pub AreBefore-none : (text : List ℕ) → AreBefore text [] 0
-AreBefore-none text = record { split = λ lexemes h. (lexemes, refl, h); join = λ rest h. h }
-
 HasSmallNumbers-rest : (front rest : List Lexeme) → HasSmallNumbers (front ++ rest) → HasSmallNumbers rest
 HasSmallNumbers-rest [] rest h = h
 HasSmallNumbers-rest (Word bytes ∷ front) rest h = HasSmallNumbers-rest front rest h

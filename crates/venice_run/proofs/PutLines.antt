@@ -6,7 +6,7 @@ use Rattle.std.proofs.lemmas.Bool.{cases_lt}
 use Rattle.ven_io.specs.Sink.{Takes, TakesPart}
 use Rattle.ven_io.proofs.SinkLemmas.{Takes-then, TakesPart-more, Takes-then-part}
 use Rattle.ven_io.specs.Token.{line_end}
-use Rattle.venice_run.specs.Ending.{IsLineStart, TakesLines}
+use Rattle.venice_run.specs.Ending.{IsLineStart}
 
 -- the text up to a place, and from there to the next
 take_more : (text : List ℕ) (start end : ℕ) → start ≤ end → take end text ≡ take start text ++ take (end - start) (drop start text)
@@ -36,8 +36,3 @@ line_start text start end later in_text ended =
 
 pub not_failed : {T E : Type 0} (x : T) (e : E) → ◌≡◌ {A = Result T E} (Ok x) (Err e) → ⊥
 not_failed x e h = cc
-
-pub TakesLines-of : (before after : Option (List ℕ)) (text : List ℕ) (start : ℕ) → start < length text → IsLineStart text start ⊎ (start ≡ length text)
-    → Takes before after (take start text) → TakesLines before after text
-TakesLines-of before after text start lt (inl whole) taken = record { count = start; short = lt; whole = whole; taken = taken }
-TakesLines-of before after text start lt (inr at_end) taken = absurd (omega arith)

@@ -36,14 +36,10 @@ part_in xs place new n inside long =
     let rest = drop (place + length new) xs in
     ap (take n) (drop_at (take place xs) (new ++ rest) place (length-take-le place xs (omega arith))) ∙ take_at new rest n long
 
--- a part that stands before it, or behind it
+-- a part that stands before it
 pub part_before : {A : Type 0} (d : A) (xs : List A) (place : ℕ) (new : List A) (p n : ℕ) → place + length new ≤ length xs → p + n ≤ place → part (overwritten xs place new) p n ≡ part xs p n
 part_before d xs place new p n inside before =
     same_part d xs (overwritten xs place new) p n (overwritten_length xs place new inside) (λ q from below. overwritten_below xs place new inside d q (omega arith))
-
-pub part_behind : {A : Type 0} (d : A) (xs : List A) (place : ℕ) (new : List A) (p n : ℕ) → place + length new ≤ length xs → place + length new ≤ p → part (overwritten xs place new) p n ≡ part xs p n
-part_behind d xs place new p n inside behind =
-    same_part d xs (overwritten xs place new) p n (overwritten_length xs place new inside) (λ q from below. overwritten_above xs place new inside d q (omega arith))
 
 pub whole_part : {A : Type 0} (xs : List A) (p n : ℕ) → p + n ≤ length xs → length (part xs p n) ≡ n
 whole_part xs p n inside = omega (arith, part_length xs p n)

@@ -34,7 +34,7 @@ impl Addition {
         }
     }
 
-    // The names and the columns at the places where a program of the form has them.
+    /// The names and the columns at the places where a program of the form has them.
     fn guess(items: &[Item]) -> Option<Addition>
         ensures { MatchOption result ((a : Denoted) → IsAddition a → lexemes_of items.now ≡ program_lexemes a → ⊥)
             (λ a. (b : Denoted) → IsAddition b → lexemes_of items.now ≡ program_lexemes b → b ≡ denoted a) }

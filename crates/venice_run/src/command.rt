@@ -29,7 +29,7 @@ pub fn read_words(words: &[String]) -> Option<Command>
     Some(Command::Run { lanes, spad })
 }
 
-// The number from 1 to `most` that the text is the plain decimal of.
+/// The number from 1 to `most` that the text is the plain decimal of.
 fn plain_number(text: &str, most: u32) -> Option<u32>
     ensures { MatchOption result ((n : ℕ) → 1 ≤ n → n ≤ most → text.now ≡ decimal n → ⊥)
         (λ n. (1 ≤ n) × (n ≤ most) × (text.now ≡ decimal n)) }
@@ -40,7 +40,7 @@ fn plain_number(text: &str, most: u32) -> Option<u32>
     }
 }
 
-// Whether the text is what the number prints.
+/// Whether the text is what the number prints.
 fn is_plain(number: u32, text: &str) -> bool
     ensures { IsTrue result ↔ (text.now ≡ decimal number) }
 {

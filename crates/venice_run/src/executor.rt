@@ -27,7 +27,7 @@ pub(crate) fn do_list(
     Ok(())
 }
 
-// Does one issue, whole. A wait has nothing to wait for.
+/// Does one issue, whole. A wait has nothing to wait for.
 fn do_issue(
     alloc: Global,
     issue: &Issue,
@@ -74,21 +74,21 @@ pub(crate) fn overwrite<T: Copy>(items: &mut [T], place: u32, new: &[T])
     items[place..place + new.len()].copy_from_slice(new);
 }
 
-// The cells of bytes that are read.
+/// The cells of bytes that are read.
 fn cleared(alloc: Global, bytes: &[u8]) -> Result<Vec<Cell>, AllocError>
     ensures { IfOk result (λ row. row.items ≡ map clear bytes.now) }
 {
     bytes.iter().map(|byte| (*byte, false)).collect(alloc)
 }
 
-// The bytes of cells that are written.
+/// The bytes of cells that are written.
 fn bytes(alloc: Global, cells: &[Cell]) -> Result<Vec<u8>, AllocError>
     ensures { IfOk result (λ row. row.items ≡ map byte_of cells.now) }
 {
     cells.iter().map(|cell| cell.0).collect(alloc)
 }
 
-// The wrapped sums of two rows of cells.
+/// The wrapped sums of two rows of cells.
 fn added(alloc: Global, first: &[Cell], second: &[Cell]) -> Result<Vec<Cell>, AllocError>
     ensures { IfOk result (λ row. row.items ≡ added first.now second.now) }
 {

@@ -49,7 +49,7 @@ pub(crate) fn items_of(alloc: Global, text: &[u8]) -> Result<Option<Vec<Item<'_>
     }
 }
 
-// The item of a name, a number or a sign: `None` where it is a number above 4,294,967,295.
+/// The item of a name, a number or a sign: `None` where it is a number above 4,294,967,295.
 fn item_of(text: &[u8], token: Token) -> Option<Item<'_>>
     requires no_end { token.kind ≢ TokenKind.End }
     requires no_line { token.kind ≢ TokenKind.Line }

@@ -28,7 +28,7 @@ pub(crate) fn put_lines<S: Sink>(out: &mut S, text: &[u8]) -> Result<(), OutFaul
     Ok(())
 }
 
-// Where the line that starts there ends, its line end in it.
+/// Where the line that starts there ends, its line end in it.
 fn line_end_from(text: &[u8], start: usize) -> usize
     requires { start < length text.now }
     ensures later { start < result }

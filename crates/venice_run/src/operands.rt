@@ -10,6 +10,9 @@ use crate::items::{Item, are_same};
 use std::alloc::{AllocError, Global};
 use ven_base::Name;
 
+/// How many items `NAME u8[1,C]` has.
+const HEADING_LENGTH: usize = 7;
+
 /// The values of the two inputs.
 #[derive(Debug, Drop)]
 pub(crate) struct Operands {
@@ -47,10 +50,7 @@ impl Operands {
     }
 }
 
-/// How many items `NAME u8[1,C]` has.
-const HEADING_LENGTH: usize = 7;
-
-// The values of an array of one row of `columns` values, behind its heading.
+/// The values of an array of one row of `columns` values, behind its heading.
 fn array_values(
     alloc: Global,
     items: &[Item],
@@ -83,7 +83,7 @@ fn heading(name: &Name, columns: u32) -> [Item<'_>; 7]
     ]
 }
 
-// The values of the items, where each is a number from 0 to 255.
+/// The values of the items, where each is a number from 0 to 255.
 fn values(alloc: Global, items: &[Item]) -> Result<Option<Vec<u8>>, AllocError>
     ensures { IfOk result (λ found. MatchOption found
         ((vs : List ℕ) → All (λ v. v < 256) vs → lexemes_of items.now ≡ map Number vs → ⊥)

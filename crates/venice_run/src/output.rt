@@ -1,8 +1,7 @@
 //! The printed text of an array.
 
-ghost use Rattle.std.specs.Prelude.{◌≡◌, ◌++◌, ◌≤◌, ◌<◌, ◌^◌, length, map, codes, decimal, vec_len, IfOk, OnOk, All};
-ghost use Rattle.std.specs.Fmt.{signed_decimal};
-ghost use Rattle.venice_run.specs.Output.{type_word, heading_of, row_text, one_row_text, sums_of};
+ghost use Rattle.std.specs.Prelude.{◌≡◌, ◌++◌, IfOk, OnOk};
+ghost use Rattle.venice_run.specs.Output.{type_word, heading_of, row_text, one_row_text};
 
 use itoa::Buffer;
 use std::alloc::{AllocError, Global};
@@ -21,7 +20,7 @@ fn type_word(elem: Elem) -> &'static [u8]
     }
 }
 
-// `NAME TYPE[R,C]` and a line end.
+/// `NAME TYPE[R,C]` and a line end.
 fn push_heading(
     text: &mut Vec<u8>,
     name: &[u8],
@@ -42,7 +41,7 @@ fn push_heading(
     Ok(())
 }
 
-// The values with one space between, and a line end.
+/// The values with one space between, and a line end.
 fn push_row(text: &mut Vec<u8>, row: &[i64]) -> Result<(), AllocError>
     ensures { OnOk result (text.new.items ≡ text.old.items ++ row_text row.now) }
 {

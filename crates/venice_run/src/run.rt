@@ -38,7 +38,7 @@ fn load_text<F: Files>(alloc: Global, files: &mut F, name: &str) -> Result<Vec<u
     }
 }
 
-// The items of a text within the limit: `None` where it has none, or is longer, before its bytes are looked at.
+/// The items of a text within the limit: `None` where it has none, or is longer, before its bytes are looked at.
 fn items_within(alloc: Global, text: &[u8]) -> Result<Option<Vec<Item<'_>>>, AllocError>
     ensures { IfOk result (λ found. MatchOption found
         ((lexemes : List Lexeme) → length text.now ≤ text_limit → HasSmallNumbers lexemes → ¬ IsLexed text.now lexemes)
@@ -50,7 +50,7 @@ fn items_within(alloc: Global, text: &[u8]) -> Result<Option<Vec<Item<'_>>>, All
     items_of(alloc, text)
 }
 
-// The addition whose program the text is.
+/// The addition whose program the text is.
 fn program_of(alloc: Global, text: &[u8]) -> Result<Addition, Refusal>
     ensures { IsProgramText text.now result }
 {
@@ -63,7 +63,7 @@ fn program_of(alloc: Global, text: &[u8]) -> Result<Addition, Refusal>
     }
 }
 
-// The values that the text gives to the inputs of the addition.
+/// The values that the text gives to the inputs of the addition.
 fn operands_of(alloc: Global, text: &[u8], addition: &Addition) -> Result<Operands, Refusal>
     requires { IsAddition (denoted addition.now) }
     ensures { IsInputsText text.now (denoted addition.now) result }
@@ -103,7 +103,7 @@ fn read_inputs<F: Files>(
     operands_of(alloc, &text, addition)
 }
 
-// The text of the sums that the addition prints.
+/// The text of the sums that the addition prints.
 fn sum_text(alloc: Global, addition: &Addition, operands: &Operands) -> Result<Vec<u8>, AllocError>
     requires some { 1 ≤ addition.now.columns }
     requires few { addition.now.columns ≤ 2048 }

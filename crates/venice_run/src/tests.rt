@@ -40,7 +40,7 @@ fn status<F: Files, S: Sink>(
     Ok(venice(alloc, &owned(alloc, words)?, files, out))
 }
 
-// The status and the text of a run over files and a sink that never fail.
+/// The status and the text of a run over files and a sink that never fail.
 fn reply(
     alloc: Global,
     words: &[&str],
@@ -177,7 +177,7 @@ fn a_name_has_up_to_31_bytes(rt: HostRuntime) -> Result<(), Fail> {
     Ok(())
 }
 
-// The text, and so many spaces that it has this length.
+/// The text, and so many spaces that it has this length.
 fn padded(alloc: Global, text: &str, length: usize) -> Result<String, Fail> {
     let mut padded = String::from_str(alloc, text)?;
     for _ in text.len()..length {

@@ -1,12 +1,18 @@
 //! The tile that adds two arrays of bytes, as a list of issues.
 
 ghost use Rattle.std.specs.Prelude.{◌≡◌, ◌≤◌, IfOk};
-ghost use Rattle.venice_run.specs.Tile.{second_place, sum_place, add_bytes, row_transfer, row_addition, tile_list};
+ghost use Rattle.venice_run.specs.Tile.{second_place, sum_place, second_cell, sum_cell, add_bytes, row_transfer, row_addition, tile_list};
 ghost use Rattle.venice_run.specs.TileLaw.{TileAdds};
 
 use std::alloc::{AllocError, Global};
 use ven_base::Elem;
 use venice_isa::{DmaWork, Issue, VecKind, VecOp, VecWork};
+
+/// Where the first array begins in memory.
+pub(crate) const FIRST_PLACE: u32 = 0;
+
+/// The cell where the first array's buffer begins.
+const FIRST_CELL: u32 = 0;
 
 /// The list that adds two arrays of `u8[1,cols]` from memory, `cols` from 1 to 2,048: it reads both, adds
 /// them in the scratchpad and writes the sums back. In memory the first array stands at place 0, the
@@ -17,20 +23,18 @@ pub fn one_tile(alloc: Global, cols: u32) -> Result<Vec<Issue>, AllocError>
     requires few { cols ≤ 2048 }
     ensures { IfOk result (λ list. list.items ≡ tile_list cols) }
 {
-    let second = second_place(cols);
-    let sum = sum_place(cols);
     let all_read = Issue::RWait(0);
     let all_written = Issue::WWait(0);
     Vec::from_slice(
         alloc,
         &[
-            Issue::Read(row_transfer(0, 0, cols)),
-            Issue::Read(row_transfer(second, 2 * cols, cols)),
+            Issue::Read(row_transfer(FIRST_PLACE, FIRST_CELL, cols)),
+            Issue::Read(row_transfer(second_place(cols), second_cell(cols), cols)),
             all_read,
             all_written,
-            Issue::Vector(row_addition(cols, 5 * cols, 0, 2 * cols)),
+            Issue::Vector(row_addition(cols, sum_cell(cols), FIRST_CELL, second_cell(cols))),
             Issue::VWait,
-            Issue::Write(row_transfer(sum, 5 * cols, cols)),
+            Issue::Write(row_transfer(sum_place(cols), sum_cell(cols), cols)),
             all_read,
             all_written,
         ],
@@ -57,6 +61,22 @@ pub(crate) fn sum_place(cols: u32) -> u32
     ensures { result ≡ sum_place cols }
 {
     (second_place(cols) + cols).next_multiple_of(4)
+}
+
+/// The cell where the second array's buffer begins.
+fn second_cell(cols: u32) -> u32
+    requires { cols ≤ 2048 }
+    ensures { result ≡ second_cell cols }
+{
+    2 * cols
+}
+
+/// The cell where the sums' buffer begins.
+fn sum_cell(cols: u32) -> u32
+    requires { cols ≤ 2048 }
+    ensures { result ≡ sum_cell cols }
+{
+    5 * cols
 }
 
 fn row_transfer(mem: u32, spad: u32, bytes: u32) -> DmaWork
@@ -88,7 +108,7 @@ fn row_addition(vl: u32, dst: u32, a: u32, b: u32) -> VecWork
     }
 }
 
-// The addition of bytes to bytes.
+/// The addition of bytes to bytes.
 fn add_bytes() -> VecKind
     ensures { result ≡ add_bytes }
 {

@@ -1,6 +1,6 @@
 //! The top call.
 
-ghost use Rattle.std.specs.Prelude.{◌≡◌, ◌≢◌, ◌⊎◌, IsErrOf, length};
+ghost use Rattle.std.specs.Prelude.{◌≡◌, ◌≢◌, ◌⊎◌, IsErrOf};
 ghost use Rattle.ven_io.specs.Faults.{Rose, CountsFaults};
 ghost use Rattle.ven_io.specs.Sink.{Takes};
 ghost use Rattle.venice_run.specs.Words.{texts_of};
@@ -15,6 +15,12 @@ use crate::refusal::Refusal;
 use crate::run::run;
 use std::alloc::Global;
 use ven_io::{Files, OutFault, Sink};
+
+/// The place of the program's name among the words.
+const PROGRAM: usize = 1;
+
+/// The place of the inputs' name among the words.
+const INPUTS: usize = 2;
 
 /// The status where a put failed, which has no line of its own.
 const PUT_FAILED: u8 = 9;
@@ -62,7 +68,7 @@ pub fn venice<F: Files, S: Sink>(alloc: Global, words: &[String], files: &mut F,
     reply(alloc, words, files, out)
 }
 
-// What is meant to be said, as far as it can be put.
+/// What is meant to be said, as far as it can be put.
 fn reply<F: Files, S: Sink>(alloc: Global, words: &[String], files: &mut F, out: &mut S) -> u8
     ensures ends { Ends (texts_of words.now) (F.held files.old) (F.load_faults files.old) (F.load_faults files.new)
         (S.taken out.old) (S.taken out.new) (S.faults out.old) (S.faults out.new) result }
@@ -75,7 +81,7 @@ fn reply<F: Files, S: Sink>(alloc: Global, words: &[String], files: &mut F, out:
     }
 }
 
-// What is printed, or the first refusal.
+/// What is printed, or the first refusal.
 fn answer<F: Files>(alloc: Global, words: &[String], files: &mut F) -> Result<Vec<u8>, Refusal>
     ensures answered { Answers (texts_of words.now) (F.held files.old) result }
     ensures held { F.held files.new ≡ F.held files.old }
@@ -83,7 +89,10 @@ fn answer<F: Files>(alloc: Global, words: &[String], files: &mut F) -> Result<Ve
     ensures saves { F.save_faults files.new ≡ F.save_faults files.old }
 {
     match read_words(words) {
-        Some(command) => run(alloc, command, words[1].as_str(), words[2].as_str(), files),
+        Some(command) => {
+            let (program, inputs) = (words[PROGRAM].as_str(), words[INPUTS].as_str());
+            run(alloc, command, program, inputs, files)
+        }
         None => Err(Refusal::Usage),
     }
 }
