@@ -5,12 +5,16 @@ use std::test::*;
 
 #[test]
 fn numbers_have_their_values(rt: HostRuntime) {
-    let values: [(&[u8], i64); 6] = [
+    let values: [(&[u8], i64); 10] = [
         (b"0", 0),
+        (b"7", 7),
         (b"12", 12),
+        (b"4294967295", 4_294_967_295),
         (b"0000000000000000000000000000004294967295", 4_294_967_295),
         (b"0x1F", 31),
         (b"0xaBcDeF", 11_259_375),
+        (b"0x0", 0),
+        (b"0xffffffff", 4_294_967_295),
         (b"0x00000000000000000000000000000ffffffff", 4_294_967_295),
     ];
     for (text, value) in values {
@@ -21,11 +25,12 @@ fn numbers_have_their_values(rt: HostRuntime) {
 
 #[test]
 fn texts_that_are_no_numbers(rt: HostRuntime) {
-    let faults: [(&[u8], NumberFault); 11] = [
+    let faults: [(&[u8], NumberFault); 13] = [
         (b"", NumberFault::Empty),
         (b"0x", NumberFault::Empty),
         (b"12a", NumberFault::NotDigit { at: 2 }),
         (b"0xg", NumberFault::NotDigit { at: 2 }),
+        (b"0x1G", NumberFault::NotDigit { at: 3 }),
         (b"0X1", NumberFault::NotDigit { at: 1 }),
         (b"x", NumberFault::NotDigit { at: 0 }),
         (b"-1", NumberFault::NotDigit { at: 0 }),
@@ -34,6 +39,7 @@ fn texts_that_are_no_numbers(rt: HostRuntime) {
             NumberFault::NotDigit { at: 23 },
         ),
         (b"4294967296", NumberFault::TooLarge),
+        (b"00004294967296", NumberFault::TooLarge),
         (b"99999999999999999999999999999999", NumberFault::TooLarge),
         (b"0x100000000", NumberFault::TooLarge),
     ];
