@@ -141,7 +141,7 @@ struct Row {
 
 const ZERO: Four = [(0, false), (0, false), (0, false), (0, false)];
 
-const ROWS: [Row; 9] = [
+const ROWS: [Row; 13] = [
     Row {
         op: VecOp::Shl,
         elem: Elem::U8,
@@ -262,6 +262,60 @@ const ROWS: [Row; 9] = [
         b: ZERO,
         before: ZERO,
         after: [(255, false), (255, false), (0, false), (0, false)],
+    },
+    // Saturation stops at the ends of the type's range: 250 + 10 and 4 - 5 of bytes, and of signed bytes 127 + 1
+    // and -128 - 1.
+    Row {
+        op: VecOp::Sadd,
+        elem: Elem::U8,
+        from: Elem::U8,
+        scalars: (false, true),
+        acc: false,
+        vl: 2,
+        numbers: (0, 10),
+        a: [(250, false), (4, false), (0, false), (0, false)],
+        b: ZERO,
+        before: [(7, true), (7, true), (7, true), (7, true)],
+        after: [(255, false), (14, false), (7, true), (7, true)],
+    },
+    Row {
+        op: VecOp::Ssub,
+        elem: Elem::U8,
+        from: Elem::U8,
+        scalars: (false, true),
+        acc: false,
+        vl: 2,
+        numbers: (0, 5),
+        a: [(250, false), (4, false), (0, false), (0, false)],
+        b: ZERO,
+        before: [(7, true), (7, true), (7, true), (7, true)],
+        after: [(245, false), (0, false), (7, true), (7, true)],
+    },
+    Row {
+        op: VecOp::Sadd,
+        elem: Elem::I8,
+        from: Elem::I8,
+        scalars: (false, true),
+        acc: false,
+        vl: 2,
+        numbers: (0, 1),
+        a: [(127, false), (128, false), (0, false), (0, false)],
+        b: ZERO,
+        before: [(7, true), (7, true), (7, true), (7, true)],
+        after: [(127, false), (129, false), (7, true), (7, true)],
+    },
+    Row {
+        op: VecOp::Ssub,
+        elem: Elem::I8,
+        from: Elem::I8,
+        scalars: (false, true),
+        acc: false,
+        vl: 2,
+        numbers: (0, 1),
+        a: [(127, false), (128, false), (0, false), (0, false)],
+        b: ZERO,
+        before: [(7, true), (7, true), (7, true), (7, true)],
+        after: [(126, false), (128, false), (7, true), (7, true)],
     },
 ];
 

@@ -10,6 +10,7 @@ use Rattle.ven_base.specs.declared.elem.Elem.TheVariants.{U8, I8, U16, I16, U32,
 use Rattle.ven_base.specs.Elem.{IsElement}
 use Rattle.ven_base.specs.Operation.{one_or_zero}
 use Rattle.ven_base.specs.Wrap.{wrapped}
+use Rattle.ven_base.specs.Saturation.{IsNearest, nearest}
 use Rattle.ven_base.proofs.Wrapped.{wrapped_in, zero_in}
 
 -- a result that is a number of the type
@@ -52,3 +53,16 @@ IsElement-shifted elem (negsuc a) k h = let some = zero_in elem in record { from
 pub shr-is : (x : ℤ) (m : ℕ) → shr_z x m ≡ int_div_euclid x (pos m)
 shr-is (pos a) m = refl
 shr-is (negsuc a) m = refl
+
+-- the nearest number of a type is a number of the type, and none is nearer
+pub IsNearest-nearest : (elem : Elem) (n : ℤ) → IsNearest elem n (nearest elem n)
+unfolding nearest
+IsNearest-nearest elem n =
+    let some = zero_in elem in
+    record {
+      in_range = record { from_least = omega (arith, ints, clamps); below_end = omega (arith, ints, clamps) };
+      none_nearer = λ v h. omega (arith, ints, clamps);
+    }
+
+pub IsElement-nearest : (elem : Elem) (n : ℤ) → IsElement elem (nearest elem n)
+IsElement-nearest elem n = (IsNearest-nearest elem n).in_range

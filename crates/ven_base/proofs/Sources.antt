@@ -6,7 +6,7 @@ use Rattle.std.proofs.lemmas.Int.{ints}
 use Rattle.std.proofs.lemmas.Nat.{div-mul-add}
 use Rattle.std.proofs.Math.Nat.{div-lt_iff_lt-mul, add-mul-div_right, add_comm, mul-le-mul, mul-le-mul_left, mul-le-mul_right}
 use Rattle.ven_base.specs.declared.mapping.Mapping.{Mapping}
-use Rattle.ven_base.specs.declared.mapping.Mapping.TheVariants.{Identity, Shift, Rotate, Section, Stretch}
+use Rattle.ven_base.specs.declared.mapping.Mapping.TheVariants.{Identity, Shift, Rotate, Section, Stretch, Transpose}
 use Rattle.ven_base.specs.Extent.{Extent, IsExtent, IsIndex}
 use Rattle.ven_base.specs.Place.{place_within, place_round, IsCut}
 use Rattle.ven_base.specs.Mapping.{source_of, result_shape, FitsShape, index_of_both}
@@ -42,6 +42,7 @@ source_of-inside (Shift dr dc fill) shape i j e f at = both (place_within shape.
 source_of-inside (Rotate dr dc) shape i j e f at = record { row = rem_below shape.rows (pos i +ℤ dr) (omega arith); col = rem_below shape.cols (pos j +ℤ dc) (omega arith) }
 source_of-inside (Section r0 nr sr c0 nc sc) shape i j e f at = record { row = cut_below shape.rows r0 nr sr i f.0 at.row; col = cut_below shape.cols c0 nc sc j f.1 at.col }
 source_of-inside (Stretch kr kc) shape i j e f at = record { row = repeat_below shape.rows kr i f.some_rows at.row; col = repeat_below shape.cols kc j f.some_cols at.col }
+source_of-inside Transpose shape i j e f at = record { row = at.col; col = at.row }
 
 -- ---- a piece of the result, whose first row is r and whose first column is c
 
@@ -115,6 +116,7 @@ result_shape-IsExtent (Stretch kr kc) shape e f =
     let rows = mul-le-mul e.some_rows f.some_rows in
     let cols = mul-le-mul e.some_cols f.some_cols in
     record { some_rows = rows; some_cols = cols; within = f.within }
+result_shape-IsExtent Transpose shape e f = record { some_rows = e.some_cols; some_cols = e.some_rows; within = omega (arith, e.within) }
 
 -- a factor of few elements is at most as many
 pub factor_within : (a b n : ℕ) → 1 ≤ b → a * b ≤ n → a ≤ n

@@ -11,6 +11,7 @@ use Rattle.ven_base.specs.declared.mapping.Mapping.TheVariants.{Shift, Rotate, S
 use Rattle.ven_base.specs.Elem.{width_of, modulus_of, IsElement}
 use Rattle.ven_base.specs.Wrap.{AreCongruent, IsWrapped, wrapped}
 use Rattle.ven_base.specs.Operation.{amount_of, bits_of, exact2}
+use Rattle.ven_base.specs.Saturation.{IsNearest, nearest}
 use Rattle.ven_base.specs.Folding.{total_of, folded, IsFolded, joined}
 use Rattle.ven_base.specs.Extent.{Extent, IsExtent, IsIndex}
 use Rattle.ven_base.specs.Mapping.{source_of, result_shape, FitsShape}
@@ -55,6 +56,10 @@ abbrev pub RoundsDown : Type 0
 RoundsDown = (elem : Elem) (x y : ℤ) →
     let power = pos (2 ^ amount_of elem y) in
     ((exact2 Shr elem x y *ℤ power) ≤ℤ x) × (x <ℤ ((exact2 Shr elem x y +ℤ pos 1) *ℤ power))
+
+-- saturation gives a number of the type, and no other is nearer
+abbrev pub ReachesNearest : Type 0
+ReachesNearest = (elem : Elem) (n : ℤ) → IsNearest elem n (nearest elem n)
 
 -- ---- reductions
 

@@ -2,6 +2,7 @@ pub mod Elem
 pub mod Wrap
 pub mod Name
 pub mod Stored
+pub mod Saturation
 pub mod Operation
 pub mod Extent
 pub mod Place

@@ -1,7 +1,7 @@
 -- Index maps: which index of the operand an index of the result stands for, one index at a time.
 use Rattle.std.specs.Prelude.{ℕ, ℤ, pos, ◌+◌, ◌*◌, ◌/◌, ◌+ℤ◌, Option, None, Some}
 use Rattle.ven_base.specs.declared.mapping.Mapping.{Mapping}
-use Rattle.ven_base.specs.declared.mapping.Mapping.TheVariants.{Identity, Shift, Rotate, Section, Stretch}
+use Rattle.ven_base.specs.declared.mapping.Mapping.TheVariants.{Identity, Shift, Rotate, Section, Stretch, Transpose}
 use Rattle.ven_base.specs.Extent.{Extent}
 use Rattle.ven_base.specs.Place.{place_within, place_round, IsMove, IsCut, IsRepeat}
 
@@ -18,14 +18,12 @@ source_of (Shift dr dc fill) shape i j = index_of_both (place_within shape.rows 
 source_of (Rotate dr dc) shape i j = Some (place_round shape.rows (pos i +ℤ dr), place_round shape.cols (pos j +ℤ dc))
 source_of (Section r0 nr sr c0 nc sc) shape i j = Some (r0 + i * sr, c0 + j * sc)
 source_of (Stretch kr kc) shape i j = Some (i / kr, j / kc)
+source_of Transpose shape i j = Some (j, i)
 
--- the number that stands where there is no source
+-- the number that stands where there is no source, which only a shift has
 abbrev pub fill_of : Mapping → ℤ
-fill_of Identity = pos 0
 fill_of (Shift dr dc fill) = fill
-fill_of (Rotate dr dc) = pos 0
-fill_of (Section r0 nr sr c0 nc sc) = pos 0
-fill_of (Stretch kr kc) = pos 0
+fill_of _ = pos 0
 
 -- the shape of the result
 abbrev pub result_shape : Mapping → Extent → Extent
@@ -34,6 +32,7 @@ result_shape (Shift dr dc fill) shape = shape
 result_shape (Rotate dr dc) shape = shape
 result_shape (Section r0 nr sr c0 nc sc) shape = record { rows = nr; cols = nc }
 result_shape (Stretch kr kc) shape = record { rows = shape.rows * kr; cols = shape.cols * kc }
+result_shape Transpose shape = record { rows = shape.cols; cols = shape.rows }
 
 -- the mapping may be taken of an array of this shape
 abbrev pub FitsShape : Mapping → Extent → Type 0
@@ -42,3 +41,4 @@ FitsShape (Shift dr dc fill) shape = IsMove dr × IsMove dc
 FitsShape (Rotate dr dc) shape = IsMove dr × IsMove dc
 FitsShape (Section r0 nr sr c0 nc sc) shape = IsCut shape.rows r0 nr sr × IsCut shape.cols c0 nc sc
 FitsShape (Stretch kr kc) shape = IsRepeat kr kc (result_shape (Stretch kr kc) shape)
+FitsShape Transpose shape = Unit {0}

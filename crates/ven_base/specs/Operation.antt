@@ -1,4 +1,5 @@
--- What the operations give: the result on whole numbers, which is then wrapped into the type.
+-- What the operations give: the result on whole numbers, which is then wrapped into the type; a saturating operation gives
+-- the nearest number of the type instead.
 use Rattle.std.specs.Prelude.{ℕ, ℤ, pos, negsuc, ◌^◌, ◌+ℤ◌, ◌-ℤ◌, ◌*ℤ◌, neg_ℤ, unsigned_abs, Bool, if◌then◌else◌, bit_and, bit_or, bit_xor, int_lt, not}
 use Rattle.std.specs.Int.{int_rem_euclid, int_div_euclid, int_min, int_max}
 use Rattle.std.specs.Ordering.{int_eq}
@@ -6,9 +7,10 @@ use Rattle.ven_base.specs.declared.elem.Elem.{Elem}
 use Rattle.ven_base.specs.declared.ops.Op1.{Op1}
 use Rattle.ven_base.specs.declared.ops.Op1.TheVariants.{Neg, Not, Abs}
 use Rattle.ven_base.specs.declared.ops.Op2.{Op2}
-use Rattle.ven_base.specs.declared.ops.Op2.TheVariants.{Add, Sub, Mul, And, Or, Xor, Shl, Shr, Min, Max, Eq, Ne, Lt, Le, Gt, Ge}
+use Rattle.ven_base.specs.declared.ops.Op2.TheVariants.{Add, Sub, Mul, And, Or, Xor, Shl, Shr, Min, Max, Eq, Ne, Lt, Le, Gt, Ge, SatAdd, SatSub}
 use Rattle.ven_base.specs.Elem.{width_of, modulus_of}
 use Rattle.ven_base.specs.Wrap.{wrapped}
+use Rattle.ven_base.specs.Saturation.{nearest}
 
 -- the bits of a number, as its two's complement of the type's width: the number from 0 on that equals it modulo 2 to the width
 abbrev pub bits_of : Elem → ℤ → ℕ
@@ -46,10 +48,14 @@ exact2 Lt elem x y = one_or_zero (int_lt x y)
 exact2 Le elem x y = one_or_zero (not (int_lt y x))
 exact2 Gt elem x y = one_or_zero (int_lt y x)
 exact2 Ge elem x y = one_or_zero (not (int_lt x y))
+exact2 SatAdd elem x y = x +ℤ y
+exact2 SatSub elem x y = x -ℤ y
 
 -- what the operation gives in the type
 abbrev pub applied1 : Op1 → Elem → ℤ → ℤ
 applied1 op elem x = wrapped elem (exact1 op x)
 
 abbrev pub applied2 : Op2 → Elem → ℤ → ℤ → ℤ
+applied2 SatAdd elem x y = nearest elem (exact2 SatAdd elem x y)
+applied2 SatSub elem x y = nearest elem (exact2 SatSub elem x y)
 applied2 op elem x y = wrapped elem (exact2 op elem x y)

@@ -1,7 +1,9 @@
-//! The operations on numbers of a type: the result on whole numbers, wrapped into the type (docs/LANGUAGE.md, "Operations").
+//! The operations on numbers of a type: the result on whole numbers, wrapped into the type, or of a saturating operation
+//! the nearest number of the type (docs/LANGUAGE.md, "Operations").
 ghost use Rattle.std.specs.Prelude.{◌≡◌, ◌<◌};
 ghost use Rattle.ven_base.specs.Elem.{IsElement};
 ghost use Rattle.ven_base.specs.Operation.{applied1, applied2, amount_of};
+ghost use Rattle.ven_base.specs.Saturation.{nearest};
 
 use crate::wrapping::{low_bits, wrap_word};
 use crate::{Elem, Op1, Op2};
@@ -20,8 +22,8 @@ pub fn apply1(op: Op1, elem: Elem, x: i64) -> i64
     wrap_word(elem, exact)
 }
 
-/// The operation's result on `x` and `y`, numbers of the type, wrapped into the type.
-/// The amount of a shift counts modulo the type's width in bits, and a comparison gives 1 or 0.
+/// The operation's result on `x` and `y`, numbers of the type, wrapped into the type, or with `SatAdd` and `SatSub` the
+/// nearest number of the type. The amount of a shift counts modulo the type's width in bits, and a comparison gives 1 or 0.
 #[inline]
 pub fn apply2(op: Op2, elem: Elem, x: i64, y: i64) -> i64
     requires left { IsElement elem x }
@@ -45,7 +47,17 @@ pub fn apply2(op: Op2, elem: Elem, x: i64, y: i64) -> i64
         Op2::Le => i64::from(x <= y),
         Op2::Gt => i64::from(x > y),
         Op2::Ge => i64::from(x >= y),
+        Op2::SatAdd => nearest(elem, x + y),
+        Op2::SatSub => nearest(elem, x - y),
     }
+}
+
+/// The number of the type's range that is nearest to `n`.
+#[inline]
+fn nearest(elem: Elem, n: i64) -> i64
+    ensures { result ≡ nearest elem n }
+{
+    n.max(elem.least()).min(elem.end() - 1)
 }
 
 /// The amount of a shift modulo the type's width, from 0 on for a negative amount too.

@@ -1,5 +1,5 @@
 //! Laws of the definitions, each the contract of a function that does nothing. A caller of the function may use them.
-ghost use Rattle.ven_base.specs.Laws.{WrapsToOne, KeepsElements, WrapsOnce, WrapsSums, WrapsDifferences, WrapsProducts, ReducesAmounts, ReducesBits, RoundsDown, CutsSums, CutsSumsIntoParts, WrapsEachStep, ReachesBounds, HasOneReduction, JoinsReductions, ReducesInType, GoesRound, FindsPlaces, SourcesAreInside, ResultsAreShapes, CutsSections, FitsPieces, CutsStretches, FitsStretches, CutsShifts, CutsRotations, RepeatsBlocks, HasOneArray, HasOnePointwise1, HasOnePointwise2, HasOneMapped};
+ghost use Rattle.ven_base.specs.Laws.{WrapsToOne, KeepsElements, WrapsOnce, WrapsSums, WrapsDifferences, WrapsProducts, ReducesAmounts, ReducesBits, RoundsDown, ReachesNearest, CutsSums, CutsSumsIntoParts, WrapsEachStep, ReachesBounds, HasOneReduction, JoinsReductions, ReducesInType, GoesRound, FindsPlaces, SourcesAreInside, ResultsAreShapes, CutsSections, FitsPieces, CutsStretches, FitsStretches, CutsShifts, CutsRotations, RepeatsBlocks, HasOneArray, HasOnePointwise1, HasOnePointwise2, HasOneMapped};
 
 /// What holds of wrapping: it is a function, it keeps the type's numbers, and sums, differences and products may be
 /// wrapped at each step or once.
@@ -13,11 +13,13 @@ pub fn wrapping_laws()
 {}
 
 /// What holds of operations: the amount of a shift is below the width and congruent to the operand modulo the width, the bits
-/// of a number are below 2 to the width and congruent to it modulo that, and `>>` rounds down.
+/// of a number are below 2 to the width and congruent to it modulo that, `>>` rounds down, and no number of a type is nearer
+/// than the one that saturation gives.
 pub fn operation_laws()
     ensures amounts { ReducesAmounts }
     ensures bits { ReducesBits }
     ensures rounds_down { RoundsDown }
+    ensures nearest { ReachesNearest }
 {}
 
 /// What holds of reductions: each list of at least one value has one, and no list has two; where the values are numbers of

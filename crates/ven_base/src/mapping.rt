@@ -40,6 +40,9 @@ pub enum Mapping {
         kr: u32,
         kc: u32,
     },
+    /// Rows and columns exchanged: element (j, i), in as many rows as the operand has columns, and as many columns as it
+    /// has rows.
+    Transpose,
 }
 
 impl Mapping {
@@ -53,7 +56,7 @@ impl Mapping {
         ensures { IsTrue result ↔ FitsShape self.now of }
     {
         match *self {
-            Mapping::Identity => true,
+            Mapping::Identity | Mapping::Transpose => true,
             Mapping::Shift { dr, dc, .. } => is_move(dr) && is_move(dc),
             Mapping::Rotate { dr, dc } => is_move(dr) && is_move(dc),
             Mapping::Section {
@@ -80,6 +83,10 @@ impl Mapping {
                 rows: of.rows * kr,
                 cols: of.cols * kc,
             },
+            Mapping::Transpose => Shape {
+                rows: of.cols,
+                cols: of.rows,
+            },
         }
     }
 
@@ -104,6 +111,7 @@ impl Mapping {
             }
             Mapping::Section { r0, sr, c0, sc, .. } => Some((r0 + i * sr, c0 + j * sc)),
             Mapping::Stretch { kr, kc } => Some((i / kr, j / kc)),
+            Mapping::Transpose => Some((j, i)),
         }
     }
 }

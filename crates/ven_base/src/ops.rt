@@ -11,7 +11,8 @@ pub enum Op1 {
     Abs,
 }
 
-/// An operation on two numbers of one type. What it computes of whole numbers wraps into the type.
+/// An operation on two numbers of one type. What it computes of whole numbers wraps into the type, but for the
+/// saturating sum and difference, which give the number of the type's range that is nearest.
 #[derive(Clone, Copy, Debug, PartialEq, Eq, Hash)]
 pub enum Op2 {
     /// `x + y`.
@@ -46,6 +47,10 @@ pub enum Op2 {
     Gt,
     /// `x >= y`: 1 where x is at least y, else 0.
     Ge,
+    /// The sum, saturating: of x + y, the nearest number of the type's range.
+    SatAdd,
+    /// The difference, saturating: of x - y, the nearest number of the type's range.
+    SatSub,
 }
 
 /// What a reduction makes of the values of a row or of a whole array, of which there is at least one.

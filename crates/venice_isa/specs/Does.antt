@@ -1,7 +1,7 @@
 -- What a list of issues does, one after another; waits do nothing.
 use Rattle.std.specs.Prelude.{◌≡◌, List, [], ◌∷◌}
 use Rattle.venice_isa.specs.declared.issue.Issue.{Issue}
-use Rattle.venice_isa.specs.declared.issue.Issue.TheVariants.{Vector, Read, Write, RWait, WWait, VWait}
+use Rattle.venice_isa.specs.declared.issue.Issue.TheVariants.{Vector, Read, Write, RWait, WWait, VWait, TWait}
 use Rattle.venice_isa.specs.Cell.{Store}
 use Rattle.venice_isa.specs.Whole.{IsWhole}
 use Rattle.venice_isa.specs.Copy.{read_into, written_back}
@@ -14,6 +14,7 @@ DoesOne (Write work) before after = (after.cells ≡ before.cells) × (after.mem
 DoesOne (RWait count) before after = after ≡ before
 DoesOne (WWait count) before after = after ≡ before
 DoesOne VWait before after = after ≡ before
+DoesOne (TWait tag) before after = after ≡ before
 
 -- the list takes cells and memory from these to those
 abbrev pub Does : List Issue → Store → Store → Type 0

@@ -53,6 +53,8 @@ fn answer(op: VecOp, elem: Elem, a: i64, b: i64) -> i64
         VecOp::Ne => apply2(Op2::Ne, elem, a, b),
         VecOp::Lt => apply2(Op2::Lt, elem, a, b),
         VecOp::Le => apply2(Op2::Le, elem, a, b),
+        VecOp::Sadd => apply2(Op2::SatAdd, elem, a, b),
+        VecOp::Ssub => apply2(Op2::SatSub, elem, a, b),
     }
 }
 
@@ -63,7 +65,7 @@ mod tests {
 
     /// Worked out by hand: the operation, the type of the results and of B, the type of A, A, B, the answer, and
     /// whether it sets flags.
-    const ANSWERS: [(VecOp, Elem, Elem, i128, i128, i64, bool); 31] = [
+    const ANSWERS: [(VecOp, Elem, Elem, i128, i128, i64, bool); 36] = [
         (VecOp::Mov, I32, I32, -5, 0, -5, false),
         (VecOp::Cast, U16, I8, -1, 0, 65_535, false),
         (VecOp::Cast, I8, U8, 200, 0, -56, false),
@@ -95,6 +97,11 @@ mod tests {
         (VecOp::Le, U32, U32, 9, 9, 1, true),
         (VecOp::Cmov, U16, U16, 9, 1, 9, false),
         (VecOp::Cmov, U16, U16, 1, 0, 1, false),
+        (VecOp::Sadd, U8, U8, 250, 10, 255, false),
+        (VecOp::Sadd, I8, I8, -128, -1, -128, false),
+        (VecOp::Sadd, U8, U8, 0, 1, 1, false),
+        (VecOp::Ssub, U8, U8, 4, 5, 0, false),
+        (VecOp::Ssub, I32, I32, 2_147_483_647, -1, 2_147_483_647, false),
     ];
 
     #[test]

@@ -17,6 +17,8 @@ pub enum Issue {
     WWait(u32),
     /// Waits until no vector instruction is unfinished.
     VWait,
+    /// Waits until no unfinished work of either channel has this tag.
+    TWait(u32),
 }
 
 impl Issue {
@@ -31,7 +33,7 @@ impl Issue {
         match self {
             Issue::Vector(work) => work.is_in_range(cells),
             Issue::Read(work) | Issue::Write(work) => work.is_in_range(cells, memory),
-            Issue::RWait(_) | Issue::WWait(_) | Issue::VWait => true,
+            Issue::RWait(_) | Issue::WWait(_) | Issue::VWait | Issue::TWait(_) => true,
         }
     }
 }
@@ -92,6 +94,7 @@ mod tests {
             bytes: 5,
             mem_step: 10,
             spad_step: 5,
+            tag: 0,
         };
         for issue in [Issue::Read(work), Issue::Write(work)] {
             assert!(rt; issue.is_in_range(17, 115));
@@ -105,7 +108,7 @@ mod tests {
         assert!(rt; !Issue::Read(last).is_in_range(u32::MAX, u32::MAX));
         let empty = DmaWork { rows: 0, ..last };
         assert!(rt; Issue::Write(empty).is_in_range(0, 0));
-        for wait in [Issue::RWait(9), Issue::WWait(9), Issue::VWait] {
+        for wait in [Issue::RWait(9), Issue::WWait(9), Issue::VWait, Issue::TWait(9)] {
             assert!(rt; wait.is_in_range(0, 0));
         }
     }

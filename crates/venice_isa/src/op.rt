@@ -1,8 +1,8 @@
 //! The operations of vector instructions.
 
 /// An operation of the lanes, as docs/MACHINE.md ("Operations") says: what it answers at A and B. The answers are
-/// whole numbers that wrap into the results' type. A comparison sets the flags of an element where it answers 1; every
-/// other write clears them.
+/// whole numbers that wrap into the results' type, but for the two saturating operations. A comparison sets the flags
+/// of an element where it answers 1; every other write clears them.
 #[derive(Clone, Copy, Debug, PartialEq, Eq, Hash)]
 pub enum VecOp {
     /// A.
@@ -41,6 +41,10 @@ pub enum VecOp {
     Le,
     /// A, where the flag of the first byte of B's element is set; else the element is left alone.
     Cmov,
+    /// Of A + B, the nearest number of the type's range.
+    Sadd,
+    /// Of A - B, the nearest number of the type's range.
+    Ssub,
 }
 
 impl VecOp {

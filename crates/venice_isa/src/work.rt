@@ -22,7 +22,8 @@ pub struct VecWork {
 
 /// A transfer between memory and cells (docs/MACHINE.md, "Transfers"). `mem` is a place in memory and `spad` a cell, at
 /// which row 0 begins; each of the `rows` rows has `bytes` bytes, and the steps count bytes from one row's beginning to
-/// the next on either side. Any numbers may stand here, as in a `VecWork`.
+/// the next on either side. The tag is what a `TWait` may name; it has no say in what the transfer does. Any numbers may
+/// stand here, as in a `VecWork`.
 #[derive(Clone, Copy, Debug, PartialEq, Eq, Hash)]
 pub struct DmaWork {
     pub mem: u32,
@@ -31,6 +32,7 @@ pub struct DmaWork {
     pub bytes: u32,
     pub mem_step: u32,
     pub spad_step: u32,
+    pub tag: u32,
 }
 
 impl VecWork {
@@ -241,6 +243,7 @@ mod tests {
             bytes: 17,
             mem_step: 17,
             spad_step: 17,
+            tag: 0,
         };
         assert_eq!(rt; work.beats(), 6);
         assert!(rt; work.cells().lies_below(51));

@@ -4,7 +4,7 @@ use Rattle.std.specs.List.{zip}
 use Rattle.venice_isa.specs.declared.work.VecWork.{VecWork}
 use Rattle.venice_isa.specs.declared.work.DmaWork.{DmaWork}
 use Rattle.venice_isa.specs.declared.issue.Issue.{Issue}
-use Rattle.venice_isa.specs.declared.issue.Issue.TheVariants.{Vector, Read, Write, RWait, WWait, VWait}
+use Rattle.venice_isa.specs.declared.issue.Issue.TheVariants.{Vector, Read, Write}
 use Rattle.ven_base.specs.Cell.{Cell}
 use Rattle.venice_isa.specs.Cell.{Store, byte_of, clear}
 use Rattle.venice_run.specs.Tile.{row_transfer, row_addition}
@@ -27,9 +27,7 @@ abbrev pub IsPlain : ℕ → ℕ → Issue → Type 0
 IsPlain cells memory (Vector work) = IsRowAddition work cells
 IsPlain cells memory (Read work) = IsRowTransfer work cells memory
 IsPlain cells memory (Write work) = IsRowTransfer work cells memory
-IsPlain cells memory (RWait count) = Unit {0}
-IsPlain cells memory (WWait count) = Unit {0}
-IsPlain cells memory VWait = Unit {0}
+IsPlain cells memory _ = Unit {0}
 
 -- cells and memory together
 abbrev pub store_of : List Cell → List ℕ → Store

@@ -32,7 +32,15 @@ sum_cell columns = 5 * columns
 
 -- a transfer of one row of bytes
 abbrev pub row_transfer : (place cell bytes : ℕ) → DmaWork
-row_transfer place cell bytes = record { mem = place; spad = cell; rows = 1; bytes = bytes; mem_step = 0; spad_step = 0 }
+row_transfer place cell bytes = record {
+  mem = place;
+  spad = cell;
+  rows = 1;
+  bytes = bytes;
+  mem_step = 0;
+  spad_step = 0;
+  tag = 0;
+}
 
 -- the addition of bytes to bytes
 abbrev pub add_bytes : VecKind

@@ -51,7 +51,7 @@ fn do_issue(
             let row = added(alloc, first, second)?;
             overwrite(cells, work.dst, &row);
         }
-        Issue::RWait(_) | Issue::WWait(_) | Issue::VWait => {}
+        Issue::RWait(_) | Issue::WWait(_) | Issue::VWait | Issue::TWait(_) => {}
     }
     Ok(())
 }

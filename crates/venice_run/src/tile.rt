@@ -89,6 +89,7 @@ fn row_transfer(mem: u32, spad: u32, bytes: u32) -> DmaWork
         bytes,
         mem_step: 0,
         spad_step: 0,
+        tag: 0,
     }
 }
 
@@ -136,6 +137,7 @@ mod tests {
             bytes: 4,
             mem_step: 0,
             spad_step: 0,
+            tag: 0,
         };
         let kind = VecKind::new(VecOp::Add, Elem::U8, Elem::U8, false, false, false);
         let addition = VecWork {

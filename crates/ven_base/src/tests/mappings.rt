@@ -1,5 +1,5 @@
 //! Index maps, with sources that a short Python program gave by the rule of each map.
-use crate::Mapping::{self, Identity, Rotate, Section, Shift, Stretch};
+use crate::Mapping::{self, Identity, Rotate, Section, Shift, Stretch, Transpose};
 use crate::Shape;
 use std::process::Abort;
 
@@ -7,7 +7,7 @@ use std::process::Abort;
 const OUT: (u32, u32) = (9999, 9999);
 
 /// Each row has a mapping, the shape of its operand, that of its result, and the sources of the result's indices, row by row.
-static MAPS: [(Mapping, (u32, u32), (u32, u32), &[(u32, u32)]); 14] = [
+static MAPS: [(Mapping, (u32, u32), (u32, u32), &[(u32, u32)]); 16] = [
     (
         Identity,
         (2, 3),
@@ -207,6 +207,13 @@ static MAPS: [(Mapping, (u32, u32), (u32, u32), &[(u32, u32)]); 14] = [
             (1, 1),
         ],
     ),
+    (
+        Transpose,
+        (2, 3),
+        (3, 2),
+        &[(0, 0), (1, 0), (0, 1), (1, 1), (0, 2), (1, 2)],
+    ),
+    (Transpose, (1, 2), (2, 1), &[(0, 0), (0, 1)]),
 ];
 
 /// That the mapping takes an operand of this shape to a result of that shape, whose indices have these sources, row by row.

@@ -8,6 +8,7 @@ use mir.ValLaws.{of_z_fits}
 use Rattle.ven_base.specs.declared.elem.Elem.{Elem}
 use Rattle.ven_base.specs.Operation.{amount_of}
 use Rattle.ven_base.specs.Wrap.{wrapped}
+use Rattle.ven_base.specs.Saturation.{nearest}
 use Rattle.ven_base.proofs.MachineWords.{wrapped-product, wrapped-bitwise}
 use Rattle.ven_base.proofs.Operations.{is_wrapped, element_small, IsElement-one_or_zero, IsElement-min, IsElement-max, IsElement-shifted, shr-is}
 use Rattle.ven_base.proofs.apply.apply2.Goals as goal
@@ -101,3 +102,19 @@ returns-in-Gt c = rw c.in-Gt.is (is_wrapped c.args.elem _ _ (search rules) (IsEl
 
 pub returns-in-Ge : goal.returns-in-Ge
 returns-in-Ge c = rw c.in-Ge.is (is_wrapped c.args.elem _ _ (search rules) (IsElement-one_or_zero c.args.elem _))
+
+pub returns-in-SatAdd : goal.returns-in-SatAdd
+returns-in-SatAdd c =
+    let x = element_small c.args.elem c.args.x c.requires.left in
+    let y = element_small c.args.elem c.args.y c.requires.right in
+    let fits : FitsSigned w64 c.nearest.result = search rules in
+    let same : to_z w64 (of_z w64 (to_z w64 (of_z w64 c.args.x) +ℤ to_z w64 (of_z w64 c.args.y))) ≡ c.args.x +ℤ c.args.y = omega (arith, ints) in
+    rw c.in-SatAdd.is (to_z-of_z w64 c.nearest.result fits ∙ c.nearest.ensures ∙ ap (nearest c.args.elem) same)
+
+pub returns-in-SatSub : goal.returns-in-SatSub
+returns-in-SatSub c =
+    let x = element_small c.args.elem c.args.x c.requires.left in
+    let y = element_small c.args.elem c.args.y c.requires.right in
+    let fits : FitsSigned w64 c.nearest-in-SatSub.result = search rules in
+    let same : to_z w64 (of_z w64 (to_z w64 (of_z w64 c.args.x) -ℤ to_z w64 (of_z w64 c.args.y))) ≡ c.args.x -ℤ c.args.y = omega (arith, ints) in
+    rw c.in-SatSub.is (to_z-of_z w64 c.nearest-in-SatSub.result fits ∙ c.nearest-in-SatSub.ensures ∙ ap (nearest c.args.elem) same)

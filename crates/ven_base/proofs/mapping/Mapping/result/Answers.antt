@@ -8,8 +8,8 @@ use Rattle.ven_base.specs.Mapping.{FitsShape, result_shape}
 use Rattle.ven_base.proofs.Sources.{factor_within}
 use Rattle.ven_base.proofs.mapping.Mapping.result.Goals as goal
 
-pub overflow_mul-result : goal.overflow_mul-result
-overflow_mul-result c =
+pub overflow_mul-of-inside : goal.overflow_mul-of-inside
+overflow_mul-of-inside c =
     let P : Mapping → Type 0 = λ m. FitsShape m c.args.of in
     let f : FitsShape (Stretch c.in-Stretch.kr c.in-Stretch.kc) c.args.of = subst P c.in-Stretch.is c.requires in
     let Q : Extent → Type 0 = λ e. IsRepeat c.in-Stretch.kr c.in-Stretch.kc (result_shape (Stretch c.in-Stretch.kr c.in-Stretch.kc) e) in
