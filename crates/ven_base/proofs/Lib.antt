@@ -8,3 +8,4 @@ pub mod Places
 pub mod MachineWords
 pub mod Operations
 pub mod Grids
+pub mod Jobs

@@ -11,4 +11,6 @@ pub mod Grid
 pub mod Folding
 pub mod Pairs
 pub mod Cell
+pub mod Store
+pub mod Job
 pub mod Laws
