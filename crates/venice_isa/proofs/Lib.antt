@@ -11,3 +11,4 @@ pub mod Beats
 pub mod Transfers
 pub mod OneBeat
 pub mod Walks
+pub mod Footprints

@@ -14,12 +14,13 @@ use Rattle.venice_isa.specs.declared.op.VecOp.TheVariants.{Mov, Cast, Abs, Cmov}
 use Rattle.venice_isa.specs.declared.issue.Issue.TheVariants.{Vector}
 use Rattle.venice_isa.specs.Mode.{uses_b, is_conditional, allows_mode}
 use Rattle.ven_base.specs.Cell.{Cell}
+use Rattle.ven_base.specs.Store.{in_cells}
 use Rattle.venice_isa.specs.Cell.{cell_at, part, byte_of, flag_of}
 use Rattle.venice_isa.specs.declared.region.Region.{Region}
 use Rattle.venice_isa.specs.Region.{place_in, IsAt}
 use Rattle.venice_isa.specs.Element.{number_at, number_of, spelled}
 use Rattle.venice_isa.specs.Answer.{answer_of, result_of}
-use Rattle.venice_isa.specs.Footprint.{source_a, source_b, destination, written_in_row, ReadsCell, WritesCell}
+use Rattle.venice_isa.specs.Footprint.{source_a, source_b, destination, written_in_row, Reads, Writes}
 use Rattle.venice_isa.specs.Whole.{number_of_a, number_of_b, result_at, is_left_alone, new_element, sum_of_results, spelled_sum, flag_for, after_work, IsWhole}
 use Rattle.venice_isa.proofs.Regions.{covered_or_not}
 
@@ -158,7 +159,7 @@ ReadsFor work r j p =
     ((work.kind.a_scalar ≡ false) × IsAt (source_a work) r j p) ⊎ (((uses_b work.kind.op ≡ true) × (work.kind.b_scalar ≡ false) × IsAt (source_b work) r j p) ⊎ ((is_conditional work.kind.op ≡ true) × IsAt (destination work) r j p))
 
 -- what is read for an element is in the read footprint
-pub reads_for_is_read : (work : VecWork) (r j p : ℕ) → ReadsFor work r j p → ReadsCell (Vector work) p
+pub reads_for_is_read : (work : VecWork) (r j p : ℕ) → ReadsFor work r j p → Reads (Vector work) (in_cells p)
 reads_for_is_read work r j p read =
     elim read [
       | inl by_a ↦ inl (by_a.0, (r, j, by_a.1))
@@ -215,7 +216,7 @@ same_sum work before before' r j (suc count) row columns agree =
 
 -- ---- two lists of cells that agree on the read footprint
 
-module _ (work : VecWork) (before before' : List Cell) (same : (p : ℕ) → ReadsCell (Vector work) p → slice_get before' p ≡ slice_get before p) where
+module _ (work : VecWork) (before before' : List Cell) (same : (p : ℕ) → Reads (Vector work) (in_cells p) → slice_get before' p ≡ slice_get before p) where
   same_after_work : (r j : ℕ) → r < work.rows → j < written_in_row work → after_work work before' r j ≡ after_work work before r j
   same_after_work r j row column =
       same_choice work.kind.acc _ _ _ _
@@ -227,7 +228,7 @@ module _ (work : VecWork) (before before' : List Cell) (same : (p : ℕ) → Rea
     same_element : (r j : ℕ) → r < work.rows → j < written_in_row work → part after' (place_in (destination work) r j) (size_of work.kind.elem) ≡ part after (place_in (destination work) r j) (size_of work.kind.elem)
     same_element r j row column = whole'.written r j row column ∙ same_after_work r j row column ∙ sym (whole.written r j row column)
 
-    pub same_written : (p : ℕ) → WritesCell (Vector work) p → cell_at after' p ≡ cell_at after p
+    pub same_written : (p : ℕ) → Writes (Vector work) (in_cells p) → cell_at after' p ≡ cell_at after p
     same_written p covered =
         let r = covered.0 in
         let j = covered.1 in
@@ -242,7 +243,7 @@ module _ (work : VecWork) (before before' : List Cell) (same : (p : ℕ) → Rea
         subst (λ q. get_or after' q (0, false) ≡ get_or after q (0, false)) here agrees
 
 -- what an instruction writes depends only on the cells of its read footprint
-pub whole_reads : (work : VecWork) (before after before' after' : List Cell) → IsWhole work before after → IsWhole work before' after' → length before' ≡ length before → ((p : ℕ) → ReadsCell (Vector work) p → cell_at before' p ≡ cell_at before p) → (p : ℕ) → WritesCell (Vector work) p → cell_at after' p ≡ cell_at after p
+pub whole_reads : (work : VecWork) (before after before' after' : List Cell) → IsWhole work before after → IsWhole work before' after' → length before' ≡ length before → ((p : ℕ) → Reads (Vector work) (in_cells p) → cell_at before' p ≡ cell_at before p) → (p : ℕ) → Writes (Vector work) (in_cells p) → cell_at after' p ≡ cell_at after p
 whole_reads work before after before' after' whole whole' long agree = same_written work before before' (λ p read. same_slot (0, false) before before' p long (agree p read)) after after' whole whole'
 
 -- the cells before determine the cells after

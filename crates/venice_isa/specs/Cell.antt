@@ -1,4 +1,4 @@
--- The scratchpad and memory as plain lists, and what it is to write over a part of a list.
+-- Cells, what stands at a place of a list, and what it is to write over a part of one.
 use Rattle.std.specs.Prelude.{ℕ, Bool, false, List, ◌++◌, ◌+◌, length, take, drop, slice_index_or}
 use Rattle.ven_base.specs.Cell.{Cell}
 
@@ -23,8 +23,3 @@ part items place count = take count (drop place items)
 -- a list whose items from a place on are these
 abbrev pub overwritten : {A : Type 0} → List A → ℕ → List A → List A
 overwritten items place new = take place items ++ (new ++ drop (place + length new) items)
-
--- cells and memory together
-pub record Store : Type 0 where
-  pub cells : List Cell
-  pub memory : List ℕ

@@ -1,6 +1,6 @@
 //! The laws of the machine's work (docs/MACHINE.md), each as a function without arguments whose contract is the law.
 
-ghost use Rattle.venice_isa.specs.Laws.{RowsApartKeepElementsApart, WholeWritesItsFootprint, WholeReadsItsFootprint, WholeIsDetermined, ReadCopiesItsRows, WriteCopiesItsRows, BytesSpellTheirNumber, NumbersHaveOneSpelling, BeatsAreTheWhole, BeatsAreTheCopy};
+ghost use Rattle.venice_isa.specs.Laws.{RowsApartKeepElementsApart, WholeWritesItsFootprint, WholeReadsItsFootprint, WholeIsDetermined, ReadCopiesItsRows, WriteCopiesItsRows, BytesSpellTheirNumber, NumbersHaveOneSpelling, BeatsAreTheWhole, BeatsAreTheCopy, NextBeatKeepsToFootprint};
 
 /// Where no row of elements reaches into the next, every byte is in at most one element.
 pub fn rows_apart_keep_elements_apart()
@@ -55,6 +55,13 @@ pub fn beats_are_the_copy()
     ensures { BeatsAreTheCopy }
 {}
 
+/// The next beat of any work, whatever has been done of it, keeps to the work's footprint. It changes only what the
+/// work writes. What it does, and how far it brings the work, depends only on what the work reads: it is the same in any
+/// two stores of one size that have the footprint and agree there. And it brings the work one beat nearer to its end.
+pub fn next_beat_keeps_to_footprint()
+    ensures { NextBeatKeepsToFootprint }
+{}
+
 #[cfg(test)]
 mod tests {
     use super::*;
@@ -71,5 +78,6 @@ mod tests {
         numbers_have_one_spelling();
         beats_are_the_whole();
         beats_are_the_copy();
+        next_beat_keeps_to_footprint();
     }
 }

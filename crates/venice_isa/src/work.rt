@@ -38,7 +38,10 @@ pub struct DmaWork {
 impl VecWork {
     ghost use Rattle.std.specs.Prelude.{◌≡◌, ◌<◌, ◌≤◌, ◌↔◌, IsTrue, IsFalse};
     ghost use Rattle.venice_isa.specs.Mode.{uses_b};
-    ghost use Rattle.venice_isa.specs.Footprint.{source_a, source_b, destination, written_in_row, ReadsA, ReadsB, AreBelow, IsInCells};
+    ghost use Rattle.ven_base.specs.Store.{IsInRange};
+    ghost use Rattle.venice_isa.specs.declared.issue.Issue.TheVariants.{Vector};
+    ghost use Rattle.venice_isa.specs.Region.{LiesBelow};
+    ghost use Rattle.venice_isa.specs.Footprint.{source_a, source_b, destination, written_in_row, Reads, Writes};
     ghost use Rattle.venice_isa.specs.Beat.{beats_of_row, lane_group, vector_beats};
 
     /// How many elements of a row are written: all `vl`, or with accumulate one, of an empty row none.
@@ -93,7 +96,7 @@ impl VecWork {
 
     /// Whether A's cells, where A is no scalar, lie below `cells`.
     fn has_a_below(&self, cells: u32) -> bool
-        ensures { IsTrue result ↔ AreBelow (ReadsA self.now) cells }
+        ensures { IsTrue result ↔ (IsFalse self.now.kind.a_scalar → LiesBelow (source_a self.now) cells) }
     {
         self.kind.a_scalar || self.source_a().lies_below(cells)
     }
@@ -107,22 +110,26 @@ impl VecWork {
 
     /// Whether B's cells, where B is used and is no scalar, lie below `cells`.
     fn has_b_below(&self, cells: u32) -> bool
-        ensures { IsTrue result ↔ AreBelow (ReadsB self.now) cells }
+        ensures { IsTrue result ↔ (IsTrue (uses_b self.now.kind.op) → IsFalse self.now.kind.b_scalar → LiesBelow (source_b self.now) cells) }
     {
         !self.has_b_in_cells() || self.source_b().lies_below(cells)
     }
 
     /// Whether the cells of both sources lie below `cells`.
     fn has_sources_below(&self, cells: u32) -> bool
-        ensures { IsTrue result ↔ (AreBelow (ReadsA self.now) cells × AreBelow (ReadsB self.now) cells) }
+        ensures {
+            IsTrue result
+            ↔ (IsFalse self.now.kind.a_scalar → LiesBelow (source_a self.now) cells)
+            × (IsTrue (uses_b self.now.kind.op) → IsFalse self.now.kind.b_scalar → LiesBelow (source_b self.now) cells)
+        }
     {
         self.has_a_below(cells) && self.has_b_below(cells)
     }
 
     /// Whether every cell that the instruction reads or writes is one of `cells` cells (docs/MACHINE.md, "Footprints").
-    /// An instruction with a count of 0 touches none, and so is in range. Constant time.
+    /// An instruction with a count of 0 touches none, and so is in range. It touches no memory. Constant time.
     pub fn is_in_range(&self, cells: u32) -> bool
-        ensures { IsTrue result ↔ IsInCells self.now cells }
+        ensures { IsTrue result ↔ IsInRange (Reads (Vector self.now)) (Writes (Vector self.now)) (record { cells = cells; memory = 0 }) }
     {
         self.has_sources_below(cells) && self.destination().lies_below(cells)
     }
@@ -148,7 +155,9 @@ impl VecWork {
 
 impl DmaWork {
     ghost use Rattle.std.specs.Prelude.{◌≡◌, ◌↔◌, IsTrue};
-    ghost use Rattle.venice_isa.specs.Footprint.{cells_of, memory_of, IsInCellsAndMemory};
+    ghost use Rattle.ven_base.specs.Store.{IsInRange};
+    ghost use Rattle.venice_isa.specs.declared.issue.Issue.TheVariants.{Read, Write};
+    ghost use Rattle.venice_isa.specs.Footprint.{cells_of, memory_of, Reads, Writes};
     ghost use Rattle.venice_isa.specs.Beat.{beats_of_row, channel_group, transfer_beats};
 
     /// How many bytes a beat of a channel moves at the most.
@@ -180,10 +189,12 @@ impl DmaWork {
         }
     }
 
-    /// Whether every byte of the transfer lies in `cells` cells on the one side and in `memory` bytes of memory on the
-    /// other (docs/MACHINE.md, "Footprints"). A transfer with a count of 0 has no bytes, and so is in range. Constant time.
+    /// Whether every byte of the transfer, whichever way it goes, lies in `cells` cells on the one side and in `memory`
+    /// bytes of memory on the other (docs/MACHINE.md, "Footprints"). A transfer with a count of 0 has no bytes, and so is
+    /// in range. Constant time.
     pub fn is_in_range(&self, cells: u32, memory: u32) -> bool
-        ensures { IsTrue result ↔ IsInCellsAndMemory self.now cells memory }
+        ensures read { IsTrue result ↔ IsInRange (Reads (Read self.now)) (Writes (Read self.now)) (record { cells = cells; memory = memory }) }
+        ensures write { IsTrue result ↔ IsInRange (Reads (Write self.now)) (Writes (Write self.now)) (record { cells = cells; memory = memory }) }
     {
         self.cells().lies_below(cells) && self.memory().lies_below(memory)
     }

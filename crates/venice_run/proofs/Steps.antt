@@ -5,7 +5,8 @@ use Rattle.venice_isa.specs.declared.work.DmaWork.{DmaWork}
 use Rattle.venice_isa.specs.declared.issue.Issue.{Issue}
 use Rattle.venice_isa.specs.declared.issue.Issue.TheVariants.{Vector, Read, Write}
 use Rattle.ven_base.specs.Cell.{Cell}
-use Rattle.venice_isa.specs.Cell.{Store, byte_of, clear, part, overwritten}
+use Rattle.ven_base.specs.Store.{Store}
+use Rattle.venice_isa.specs.Cell.{byte_of, clear, part, overwritten}
 use Rattle.venice_isa.specs.Whole.{IsWhole}
 use Rattle.venice_isa.specs.Copy.{read_into, written_back}
 use Rattle.venice_isa.specs.Does.{DoesOne, Does}

@@ -5,7 +5,8 @@ use Rattle.std.proofs.lemmas.List.{length-map}
 use Rattle.ven_base.specs.declared.elem.Elem.TheVariants.{U8}
 use Rattle.venice_isa.specs.declared.issue.Issue.TheVariants.{Vector, Read, Write}
 use Rattle.ven_base.specs.Cell.{Cell}
-use Rattle.venice_isa.specs.Cell.{Store, byte_of, clear, part, overwritten}
+use Rattle.ven_base.specs.Store.{Store}
+use Rattle.venice_isa.specs.Cell.{byte_of, clear, part, overwritten}
 use Rattle.venice_isa.specs.Does.{DoesOne, Does}
 use Rattle.venice_isa.proofs.Wholes.{whole_determined}
 use Rattle.venice_isa.proofs.Overwrites.{overwritten_length, overwritten_below, overwritten_above}

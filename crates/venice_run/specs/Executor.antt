@@ -6,7 +6,8 @@ use Rattle.venice_isa.specs.declared.work.DmaWork.{DmaWork}
 use Rattle.venice_isa.specs.declared.issue.Issue.{Issue}
 use Rattle.venice_isa.specs.declared.issue.Issue.TheVariants.{Vector, Read, Write}
 use Rattle.ven_base.specs.Cell.{Cell}
-use Rattle.venice_isa.specs.Cell.{Store, byte_of, clear}
+use Rattle.ven_base.specs.Store.{Store}
+use Rattle.venice_isa.specs.Cell.{byte_of, clear}
 use Rattle.venice_run.specs.Tile.{row_transfer, row_addition}
 
 -- a transfer of one row within so many cells and so many bytes of memory

@@ -1,7 +1,8 @@
 -- The law of the tile that adds two arrays: done in order, its issues leave the wrapped sums.
 use Rattle.std.specs.Prelude.{◌≡◌, ◌⊎◌, ℕ, pos, ◌+◌, ◌<◌, ◌≤◌, List, length, map, slice_index}
 use Rattle.ven_base.specs.declared.elem.Elem.TheVariants.{U8}
-use Rattle.venice_isa.specs.Cell.{Store, part}
+use Rattle.ven_base.specs.Store.{Store}
+use Rattle.venice_isa.specs.Cell.{part}
 use Rattle.venice_isa.specs.Does.{Does}
 use Rattle.venice_run.specs.Output.{sums_of}
 use Rattle.venice_run.specs.Tile.{first_place, second_place, sum_place, sum_cell, tile_list}

@@ -6,4 +6,4 @@ pub returns-else-not-has_b_in_cells : goal.returns-else-not-has_b_in_cells
 returns-else-not-has_b_in_cells c =
     let test = subst (λ region. IsTrue c.lies_below.result ↔ LiesBelow region c.args.cells) c.source_b.ensures c.lies_below.ensures in
     let in_cells = c.has_b_in_cells.ensures.0 c.if-not-has_b_in_cells.false in
-    (λ yes p reads. test.0 yes p reads.2, λ below. test.1 (λ p covered. below p (in_cells.0, in_cells.1, covered)))
+    (λ yes uses vector. test.0 yes, λ below. test.1 (below in_cells.0 in_cells.1))
