@@ -1,4 +1,4 @@
--- How far a work has come.
+-- Inner: how far a work has come.
 use Rattle.std.specs.Prelude.{◌≡◌, ℕ, ◌+◌, ◌-◌, ◌*◌, ◌<◌, ◌≤◌, ◌^◌, min, nat_le, if◌then◌else◌, ℤ, pos, neg_ℤ, ◌≤ℤ◌, Bool, not, ◌||◌}
 use Rattle.ven_base.specs.Wrap.{wrapped}
 use Rattle.venice_isa.specs.declared.work.VecWork.{VecWork}

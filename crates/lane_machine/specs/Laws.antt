@@ -1,44 +1,33 @@
--- That a beat of the lanes keeps to its work's footprint.
-use Rattle.std.specs.Prelude.{◌≡◌, ℕ, ◌<◌, ◌≤◌, List, length, refl}
-use Rattle.std.proofs.Common.{inr}
-use Rattle.spad_store.specs.Footprint.{TouchesBelow, WritesOnly, AgreesOn, ChangesAlike}
+-- Inner: that a beat of the lanes keeps to its work's footprint, as any unit's does.
+use Rattle.std.specs.Prelude.{◌≡◌, ℕ, ◌<◌, ◌≤◌, refl}
+use Rattle.ven_base.specs.Store.{Store, Size, store_size, IsInRange, AgreeOn}
+use Rattle.ven_base.specs.Job.{Job, IsReady, KeepsToFootprint, job_as}
+use Rattle.ven_base.proofs.Jobs.{ready_as, keeps_as}
 use Rattle.venice_isa.specs.declared.work.VecWork.{VecWork}
 use Rattle.venice_isa.specs.declared.issue.Issue.TheVariants.{Vector}
-use Rattle.ven_base.specs.Cell.{Cell}
-use Rattle.venice_isa.specs.Footprint.{ReadsCell, WritesCell, ReadsMemory, WritesMemory}
+use Rattle.venice_isa.specs.Footprint.{Reads, Writes}
 use Rattle.venice_isa.specs.Whole.{HasCounts}
-use Rattle.venice_isa.specs.Beat.{Progress, vector_beats, vector_beat, progress_after}
-use Rattle.venice_isa.proofs.OneBeat.{vector_end, reads_below_end, writes_below_end, beat_keeps, beat_alike, same_progress, some_vector_beat}
+use Rattle.venice_isa.specs.Beat.{Progress, vector_beats, course_of}
+use Rattle.venice_isa.proofs.OneBeat.{vector_end, vector_ends, some_vector_beat}
+use Rattle.venice_isa.proofs.Footprints.{beats_keep}
+use Rattle.lane_machine.specs.State.{lane_course}
 
-pub beat_writes : (lanes : ℕ) (work : VecWork) (progress : Progress) (cells : List Cell) (memory : List ℕ)
-    → (0 < lanes) × (lanes ≤ 4) → HasCounts work → progress.done < vector_beats work lanes
-    → TouchesBelow (ReadsCell (Vector work)) (WritesCell (Vector work)) (length cells) → TouchesBelow (ReadsMemory (Vector work)) (WritesMemory (Vector work)) (length memory)
-    → WritesOnly (WritesCell (Vector work)) cells (vector_beat work lanes progress cells) × WritesOnly (WritesMemory (Vector work)) memory memory
-beat_writes lanes work progress cells memory can_have counts more inside in_memory =
-    let kept = beat_keeps work lanes progress can_have.0 counts more cells inside.written in
-    (record { same_length = kept.0; kept = kept.1 }, record { same_length = refl; kept = λ p outside. refl })
+pub work_begins : (lanes : ℕ) (work : VecWork) → (0 < lanes) × (lanes ≤ 4) → HasCounts work → ((lane_course lanes).done (lane_course lanes).not_begun ≡ 0) × (0 < vector_beats work lanes)
+work_begins lanes work can_have counts = (refl, some_vector_beat work lanes can_have.0 counts)
 
-pub beat_reads : (lanes : ℕ) (work : VecWork) (progress : Progress) (cells cells' : List Cell) (memory memory' : List ℕ)
-    → (0 < lanes) × (lanes ≤ 4) → HasCounts work → progress.done < vector_beats work lanes
-    → TouchesBelow (ReadsCell (Vector work)) (WritesCell (Vector work)) (length cells) → TouchesBelow (ReadsMemory (Vector work)) (WritesMemory (Vector work)) (length memory)
-    → TouchesBelow (ReadsCell (Vector work)) (WritesCell (Vector work)) (length cells') → TouchesBelow (ReadsMemory (Vector work)) (WritesMemory (Vector work)) (length memory')
-    → AgreesOn (ReadsCell (Vector work)) cells cells' → AgreesOn (ReadsMemory (Vector work)) memory memory'
-    → ChangesAlike cells (vector_beat work lanes progress cells) cells' (vector_beat work lanes progress cells')
-    × ChangesAlike memory memory memory' memory'
-    × (progress_after work lanes progress cells' ≡ progress_after work lanes progress cells)
-beat_reads lanes work progress cells cells' memory memory' can_have counts more inside in_memory inside' in_memory' agree agree_memory = (
-  beat_alike work lanes progress can_have.0 counts more cells inside.written cells' inside'.written agree,
-  λ p. inr (refl, refl),
-  same_progress work lanes progress can_have.0 counts more cells inside.written cells' inside'.written agree,
-)
+pub work_has_an_end : (work : VecWork) → (size : Size) × IsInRange (Reads (Vector work)) (Writes (Vector work)) size
+work_has_an_end work = (record { cells = vector_end work; memory = 0 }, vector_ends work)
 
-pub some_beat : (lanes : ℕ) (work : VecWork) → (0 < lanes) × (lanes ≤ 4) → HasCounts work → 0 < vector_beats work lanes
-some_beat lanes work can_have counts = some_vector_beat work lanes can_have.0 counts
+pub next_beat_keeps : (lanes : ℕ) (job : Job VecWork Progress) (first second : Store)
+    → 0 < lanes → IsReady (lane_course lanes) (λ work. Reads (Vector work)) (λ work. Writes (Vector work)) job (store_size first)
+    → store_size second ≡ store_size first → AgreeOn (Reads (Vector job.work)) first second
+    → KeepsToFootprint (lane_course lanes) (λ work. Writes (Vector work)) job first second
+next_beat_keeps lanes job first second some ready same agree =
+    keeps_as Vector (course_of lanes) Writes job first second
+    (beats_keep lanes (job_as Vector job) first second some (ready_as Vector (course_of lanes) Reads Writes job (store_size first) ready) same agree)
 
-pub footprint_ends : (work : VecWork) → HasCounts work
-    → (end : ℕ) × TouchesBelow (ReadsCell (Vector work)) (WritesCell (Vector work)) end × TouchesBelow (ReadsMemory (Vector work)) (WritesMemory (Vector work)) end
-footprint_ends work counts = (
-  vector_end work,
-  record { read = reads_below_end work; written = writes_below_end work },
-  record { read = λ p reads. absurd reads; written = λ p writes. absurd writes },
-)
+pub beat_keeps_to_footprint : (lanes : ℕ) (job : Job VecWork Progress) (first second : Store)
+    → (0 < lanes) × (lanes ≤ 4) → IsReady (lane_course lanes) (λ work. Reads (Vector work)) (λ work. Writes (Vector work)) job (store_size first)
+    → store_size second ≡ store_size first → AgreeOn (Reads (Vector job.work)) first second
+    → KeepsToFootprint (lane_course lanes) (λ work. Writes (Vector work)) job first second
+beat_keeps_to_footprint lanes job first second can_have = next_beat_keeps lanes job first second can_have.0

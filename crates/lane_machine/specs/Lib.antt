@@ -4,4 +4,3 @@ pub mod Current
 pub mod State
 pub mod Lanes
 pub mod Laws
-pub mod AllBeats

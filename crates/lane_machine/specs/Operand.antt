@@ -1,4 +1,4 @@
--- What an operand gives, and how it goes on.
+-- Inner: what an operand gives, and how it goes on.
 use Rattle.std.specs.Prelude.{◌≡◌, ℕ, ◌+◌, ◌*◌, ◌<◌, ◌≤◌, ◌^◌, ℤ, Bool, true, false, List}
 use Rattle.ven_base.specs.declared.elem.Elem.{Elem}
 use Rattle.ven_base.specs.Elem.{size_of}

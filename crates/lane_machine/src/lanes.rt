@@ -1,12 +1,12 @@
 //! The unit of the vector instructions.
 ghost use Rattle.std.specs.Prelude.{◌≡◌, ◌<◌, ◌≤◌, [], length, drop, All, IfSome, IfOk, slice_get};
-ghost use Rattle.spad_store.specs.Front.{IsFront};
+ghost use Rattle.ven_base.specs.Store.{store_of};
+ghost use Rattle.ven_base.specs.Job.{beats_left, finished};
+ghost use Rattle.spad_store.specs.Queue.{IsQueue};
 ghost use Rattle.venice_isa.specs.Whole.{HasCounts, IsSimple, IsWhole};
-ghost use Rattle.venice_isa.specs.Beat.{not_begun, vector_beats};
-ghost use Rattle.lane_machine.specs.Current.{IsUnderWay};
-ghost use Rattle.lane_machine.specs.Lanes.{progress_in};
-ghost use Rattle.lane_machine.specs.Group.{IsInside};
-ghost use Rattle.lane_machine.specs.AllBeats.{all_beats};
+ghost use Rattle.venice_isa.specs.Beat.{not_begun};
+ghost use Rattle.lane_machine.specs.State.{LiesIn, lane_course};
+ghost use Rattle.lane_machine.specs.Lanes.{IsFront, progress_in};
 
 use crate::current::Current;
 use crate::group::beat;
@@ -46,7 +46,7 @@ impl Lanes {
     pub fn new(alloc: Global, lanes: u32) -> Result<Lanes, AllocError>
         requires some { 0 < lanes }
         requires few { lanes ≤ 4 }
-        ensures { IfOk result (λ unit. unit ≡ record { works = []; progress = not_begun; lanes = lanes }) }
+        ensures { IfOk result (λ unit. unit ≡ record { jobs = []; lanes = lanes }) }
     {
         let queue = HeapCircularBuffer::with_capacity(alloc, Self::PLACES as usize)?;
         Ok(Lanes {
@@ -56,19 +56,18 @@ impl Lanes {
         })
     }
 
-    /// Does all beats of the queue's first work, which has not begun, and gives their number. The
-    /// work leaves the queue, whose works all lie in the cells. The beats of a simple work together
-    /// are its whole effect, for each number of lanes ("The whole effect" of docs/MACHINE.md).
+    /// Does all beats that are left of the queue's first work, and gives their number. The work leaves the queue, whose
+    /// works all lie in the cells. Of a work that has not begun and is simple they are the whole effect, for each number
+    /// of lanes ("The whole effect" of docs/MACHINE.md).
     pub fn finish(&mut self, cells: &mut Spad, memory: &mut MainMem) -> u64
-        requires some { 0 < length self.old.works }
-        requires begins { self.old.progress ≡ not_begun }
-        requires inside { All (λ work. IsInside work (length cells.old)) self.old.works }
-        ensures count { IfSome (slice_get self.old.works 0) (λ work. result ≡ vector_beats work self.old.lanes) }
-        ensures cells { IfSome (slice_get self.old.works 0) (λ work. cells.new ≡ all_beats work self.old.lanes cells.old) }
-        ensures whole { IfSome (slice_get self.old.works 0) (λ work. IsSimple work → IsWhole work cells.old cells.new) }
+        requires some { 0 < length self.old.jobs }
+        requires inside { All (LiesIn (store_of cells.old memory.old)) self.old.jobs }
+        ensures count { IfSome (slice_get self.old.jobs 0) (λ job. result ≡ beats_left (lane_course self.old.lanes) job) }
+        ensures store { IfSome (slice_get self.old.jobs 0) (λ job. store_of cells.new memory.new ≡ finished (lane_course self.old.lanes) job (store_of cells.old memory.old)) }
+        ensures whole { IfSome (slice_get self.old.jobs 0) (λ job. job.progress ≡ not_begun → IsSimple job.work → IsWhole job.work cells.old cells.new) }
         ensures length { length cells.new ≡ length cells.old }
         ensures memory { memory.new ≡ memory.old }
-        ensures queue { self.new ≡ record self.old { works = drop 1 self.old.works } }
+        ensures jobs { self.new ≡ record self.old { jobs = drop 1 self.old.jobs } }
     {
         let beats = self.first_beats();
         for _k in 0..beats {
@@ -77,15 +76,15 @@ impl Lanes {
         beats
     }
 
-    /// How many beats the queue's first work takes, or 0.
+    /// How many beats the queue's first work has left, or 0.
     fn first_beats(&self) -> u64
         ensures some_lanes { 0 < self.now.lanes }
-        ensures first { IfSome (slice_get self.now.works 0) (λ work. (result ≡ vector_beats work self.now.lanes) × (self.now.progress.done < result)) }
-        ensures counts { IfSome (slice_get self.now.works 0) HasCounts }
+        ensures first { IfSome (slice_get self.now.jobs 0) (λ job. result ≡ beats_left (lane_course self.now.lanes) job) }
+        ensures queue { IsQueue (lane_course self.now.lanes) HasCounts 4 self.now.jobs }
     {
-        match self.queue.front() {
-            Some(work) => work.beats(self.lanes),
-            None => 0,
+        match (self.queue.front(), &self.current) {
+            (Some(work), Some(current)) => work.beats(self.lanes) - current.done,
+            _ => 0,
         }
     }
 }
@@ -95,7 +94,7 @@ fn begin_first(queue: &HeapCircularBuffer<VecWork>, lanes: u32) -> Option<Curren
     requires counts { All HasCounts queue.now.items }
     requires some_lanes { 0 < lanes }
     requires few_lanes { lanes ≤ 4 }
-    ensures first { IsFront (IsUnderWay lanes) queue.now.items result }
+    ensures first { IsFront lanes queue.now.items result }
     ensures begins { progress_in result ≡ not_begun }
 {
     queue.front().map(|work| Current::begin(work, lanes))
@@ -104,12 +103,13 @@ fn begin_first(queue: &HeapCircularBuffer<VecWork>, lanes: u32) -> Option<Curren
 impl Unit for Lanes {
     type Work = VecWork;
 
-    ghost use Rattle.std.specs.Prelude.{ℕ, ◌<◌, ◌≤◌, refl};
+    ghost use Rattle.std.specs.Prelude.{ℕ, ◌<◌, ◌≤◌};
     ghost use Rattle.venice_isa.specs.declared.issue.Issue.TheVariants.{Vector};
-    ghost use Rattle.venice_isa.specs.Footprint.{ReadsCell, WritesCell, ReadsMemory, WritesMemory};
+    ghost use Rattle.venice_isa.specs.Footprint.{Reads, Writes};
     ghost use Rattle.venice_isa.specs.Whole.{HasCounts};
-    ghost use Rattle.venice_isa.specs.Beat.{Progress as LaneProgress, not_begun as no_beat, vector_beats, vector_beat, progress_after as lane_progress_after};
-    ghost use Rattle.lane_machine.specs.Laws.{footprint_ends, beat_writes, beat_reads, some_beat};
+    ghost use Rattle.venice_isa.specs.Beat.{Progress as LaneProgress};
+    ghost use Rattle.lane_machine.specs.State.{lane_course};
+    ghost use Rattle.lane_machine.specs.Laws.{work_begins, work_has_an_end, beat_keeps_to_footprint};
 
     ghost Progress = { LaneProgress };
 
@@ -119,45 +119,23 @@ impl Unit for Lanes {
 
     ghost has_counts = { HasCounts };
 
-    ghost reads_cell = { λ work. ReadsCell (Vector work) };
+    ghost reads = { λ work. Reads (Vector work) };
 
-    ghost writes_cell = { λ work. WritesCell (Vector work) };
+    ghost writes = { λ work. Writes (Vector work) };
 
-    ghost reads_memory = { λ work. ReadsMemory (Vector work) };
-
-    ghost writes_memory = { λ work. WritesMemory (Vector work) };
-
-    ghost beats = { λ lanes work. vector_beats work lanes };
-
-    ghost done = { λ progress. progress.done };
-
-    ghost not_begun = { no_beat };
-
-    ghost cells_after = { λ lanes work progress cells memory. vector_beat work lanes progress cells };
-
-    ghost memory_after = { λ lanes work progress cells memory. memory };
-
-    ghost progress_after = { λ lanes work progress cells memory. lane_progress_after work lanes progress cells };
+    ghost course = { lane_course };
 
     ghost places = { 4 };
 
-    ghost queue = { λ lanes. lanes.works };
-
-    ghost progress = { λ lanes. lanes.progress };
+    ghost jobs = { λ lanes. lanes.jobs };
 
     ghost setting = { λ lanes. lanes.lanes };
 
-    ghost has_an_end = { footprint_ends };
+    ghost begins = { work_begins };
 
-    ghost writes_its_footprint = { beat_writes };
+    ghost has_an_end = { work_has_an_end };
 
-    ghost reads_its_footprint = { beat_reads };
-
-    ghost comes_nearer = { λ lanes work progress cells memory. refl };
-
-    ghost begins = { refl };
-
-    ghost takes_a_beat = { some_beat };
+    ghost keeps_to_footprint = { beat_keeps_to_footprint };
 
     fn offer(&mut self, work: VecWork) -> Result<(), VecWork> {
         self.queue.try_push_back(work)?;

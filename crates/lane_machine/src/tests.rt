@@ -1,6 +1,7 @@
 //! Instructions run on a small scratchpad: A stands at cell 0, B at 16 and the destination at 32.
 ghost use Rattle.std.specs.Prelude.{◌≡◌, ◌↔◌, ◌+◌, ◌<◌, ◌≤◌, [], ◌∷◌, ◌++◌, IsTrue, IsErr, OnOk, All, length, slice_get};
-ghost use Rattle.spad_store.specs.Footprint.{TouchesBelow};
+ghost use Rattle.ven_base.specs.Store.{store_of, store_size, IsInRange};
+ghost use Rattle.ven_base.specs.Job.{new_job, works_of};
 ghost use Rattle.venice_isa.specs.Whole.{HasCounts};
 ghost use Rattle.lane_machine.specs.Group.{IsInside};
 
@@ -71,16 +72,15 @@ fn run(alloc: Global, lanes: u32, work: VecWork, cells: &mut Spad) -> Result<u64
 /// Offers a work to any unit.
 fn offer_to<U: Unit>(unit: &mut U, work: U::Work) -> Result<(), U::Work>
     requires { U.has_counts work }
-    ensures full { IsErr result ↔ (length (U.queue unit.old) ≡ U.places) }
-    ensures taken { OnOk result (U.queue unit.new ≡ U.queue unit.old ++ work ∷ []) }
+    ensures full { IsErr result ↔ (length (U.jobs unit.old) ≡ U.places) }
+    ensures jobs { OnOk result (U.jobs unit.new ≡ U.jobs unit.old ++ new_job (U.course (U.setting unit.old)) work ∷ []) }
 {
     unit.offer(work)
 }
 
 /// Beats any unit until its queue is empty, a thousand times at the most, and counts the beats.
 fn count_beats<U: Unit>(unit: &mut U, cells: &mut Spad, memory: &mut MainMem) -> u32
-    requires cells_inside { All (λ work. TouchesBelow (U.reads_cell work) (U.writes_cell work) (length cells.old)) (U.queue unit.old) }
-    requires memory_inside { All (λ work. TouchesBelow (U.reads_memory work) (U.writes_memory work) (length memory.old)) (U.queue unit.old) }
+    requires inside { All (λ job. IsInRange (U.reads job.work) (U.writes job.work) (store_size (store_of cells.old memory.old))) (U.jobs unit.old) }
 {
     for turn in 0..1000 {
         if unit.unfinished() == 0 {
@@ -418,8 +418,8 @@ fn a_work_that_reads_what_it_writes_depends_on_the_lanes(rt: HostRuntime) -> Res
 
 /// A work of any unit's queue.
 fn work_of<U: Unit>(unit: &U, k: u32) -> &U::Work
-    requires { k < length (U.queue unit.now) }
-    ensures { slice_get (U.queue unit.now) k ≡ Some result.now }
+    requires { k < length (U.jobs unit.now) }
+    ensures { slice_get (works_of (U.jobs unit.now)) k ≡ Some result.now }
 {
     unit.work(k)
 }

@@ -440,7 +440,7 @@ module _ (work : VecWork) (simple : IsSimple work) (with_sum : work.kind.acc ≡
 
 -- ---- any simple instruction
 
-memory_stays : (work : VecWork) (lanes count : ℕ) (progress : Progress) (store : Store) → (after_beats count (Vector work) lanes progress store).memory ≡ store.memory
+pub memory_stays : (work : VecWork) (lanes count : ℕ) (progress : Progress) (store : Store) → (after_beats count (Vector work) lanes progress store).memory ≡ store.memory
 memory_stays work lanes zero progress store = refl
 memory_stays work lanes (suc count) progress store = memory_stays work lanes count (progress_after work lanes progress store.cells) (record store { cells = vector_beat work lanes progress store.cells })
 

@@ -11,13 +11,14 @@ use Rattle.venice_isa.specs.declared.work.VecWork.{VecWork}
 use Rattle.venice_isa.specs.declared.region.Region.{Region}
 use Rattle.venice_isa.specs.declared.issue.Issue.TheVariants.{Vector}
 use Rattle.ven_base.specs.Cell.{Cell}
-use Rattle.ven_base.specs.Store.{in_cells}
+use Rattle.ven_base.specs.Store.{in_cells, IsInRange}
 use Rattle.venice_isa.specs.Cell.{overwritten}
 use Rattle.venice_isa.specs.Region.{place_in, Covers, LiesBelow}
 use Rattle.venice_isa.specs.Footprint.{source_a, source_b, destination, Reads, Writes}
 use Rattle.venice_isa.specs.Whole.{new_element, spelled_sum, HasCounts}
 use Rattle.venice_isa.specs.Beat.{Progress, lane_group, vector_beats, lane_group_at, new_elements, sum_after, cells_after_sum, sum_left, cells_after_group, vector_beat, progress_after}
 use Rattle.venice_isa.proofs.Regions.{end_of, covered_below_end}
+use Rattle.venice_isa.proofs.Ranges.{vector_in_range}
 use Rattle.venice_isa.proofs.Overwrites.{overwritten_length, overwritten_below, overwritten_in, overwritten_above}
 use Rattle.venice_isa.proofs.Wholes.{size_positive, ReadsFor, reads_for_is_read, columns_without_sum, same_slot, same_new_element, same_sum}
 use Rattle.venice_isa.proofs.Groups.{element_end}
@@ -95,20 +96,13 @@ module _ (region : Region) (some_bytes : 0 < region.size) (r first count : ℕ) 
 pub vector_end : VecWork → ℕ
 vector_end work = end_of (source_a work) + end_of (source_b work) + end_of (destination work)
 
-pub reads_below_end : (work : VecWork) (p : ℕ) → Reads (Vector work) (in_cells p) → p < vector_end work
+pub vector_ends : (work : VecWork) → IsInRange (Reads (Vector work)) (Writes (Vector work)) (record { cells = vector_end work; memory = 0 })
 unfolding vector_end
-reads_below_end work p reads =
-    elim reads [
-      | inl by_a ↦ omega (arith, covered_below_end (source_a work) p by_a.1)
-      | inr rest ↦ elim rest [
-        | inl by_b ↦ omega (arith, covered_below_end (source_b work) p by_b.2)
-        | inr old ↦ omega (arith, covered_below_end (destination work) p old.1)
-      ]
-    ]
-
-pub writes_below_end : (work : VecWork) (p : ℕ) → Writes (Vector work) (in_cells p) → p < vector_end work
-unfolding vector_end
-writes_below_end work p writes = omega (arith, covered_below_end (destination work) p writes)
+vector_ends work =
+    vector_in_range work (record { cells = vector_end work; memory = 0 })
+    (λ vector p covers. omega (arith, covered_below_end (source_a work) p covers))
+    (λ uses vector p covers. omega (arith, covered_below_end (source_b work) p covers))
+    (λ p covers. omega (arith, covered_below_end (destination work) p covers))
 
 -- ---- a beat
 

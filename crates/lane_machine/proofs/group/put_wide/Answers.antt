@@ -1,6 +1,7 @@
 use Rattle.std.proofs.Common.{arith, ap, sym, ◌∙◌, ◌≡◌, subst, ◌+◌, length, get_or, map, ℕ, ℤ, false, pos, w64, to_z, of_z}
 use Rattle.std.proofs.lemmas.Bool.{not-true, not-false}
 use Rattle.ven_base.specs.Elem.{size_of}
+use Rattle.ven_base.specs.Store.{in_cells}
 use Rattle.venice_isa.specs.Cell.{overwritten}
 use Rattle.venice_isa.specs.Region.{place_in}
 use Rattle.venice_isa.specs.Element.{low_bytes, spelled}
@@ -65,10 +66,10 @@ loop-i-preserved g c =
           ∙ ap (λ p. overwritten cells p (spelled elem passed (flag_for work.kind passed))) place
           ∙ ap (λ n. overwritten cells here (spelled elem n (flag_for work.kind n))) read in
           subst (λ now. IsPut work before now current.row current.first (i + 1)) (sym is)
-          (put_more work c.requires.no_sum before cells c.requires.inside.written current.row current.first i c.requires.placed.in_rows (omega arith) loop.put moved)
+          (put_more work c.requires.no_sum before cells (λ p. c.requires.inside.has_writes (in_cells p)) current.row current.first i c.requires.placed.in_rows (omega arith) loop.put moved)
       | else-written-i w ↦
           let alone = not-false _ (sym is_written ∙ w.if-written-i.false) in
           subst (λ now. IsPut work before now current.row current.first (i + 1)) (sym w.cells-is)
-          (put_nothing work c.requires.no_sum before cells c.requires.inside.written current.row current.first i c.requires.placed.in_rows (omega arith) loop.put alone)
+          (put_nothing work c.requires.no_sum before cells (λ p. c.requires.inside.has_writes (in_cells p)) current.row current.first i c.requires.placed.in_rows (omega arith) loop.put alone)
     ] in
     record { place_is = omega (arith, c.requires.width, c.SIZE-place.ensures, loop.place_is); put = put }

@@ -1,10 +1,6 @@
-use Rattle.std.proofs.Common.{length}
 use Rattle.std.specs.Prelude.{All}
-use Rattle.spad_store.specs.Footprint.{TouchesBelow}
+use Rattle.ven_base.specs.Store.{store_of, store_size, IsInRange}
 use Rattle.lane_machine.proofs.tests.count_beats.Given as goal
 
 abbrev pub invariant-loop-turn : goal.invariant-loop-turn
-invariant-loop-turn g l = record {
-  cells_inside : All (λ work. TouchesBelow (g.U.Unit.reads_cell work) (g.U.Unit.writes_cell work) (length l.cells)) (g.U.Unit.queue l.unit);
-  memory_inside : All (λ work. TouchesBelow (g.U.Unit.reads_memory work) (g.U.Unit.writes_memory work) (length l.memory)) (g.U.Unit.queue l.unit);
-}
+invariant-loop-turn g l = All (λ job. IsInRange (g.U.Unit.reads job.work) (g.U.Unit.writes job.work) (store_size (store_of l.cells l.memory))) (g.U.Unit.jobs l.unit)

@@ -1,103 +1,93 @@
-use Rattle.std.proofs.Common.{◌≡◌, ◌<◌, ◌∙◌, ap, sym, subst, arith, length, drop, List, ℕ, Some}
+use Rattle.std.proofs.Common.{◌≡◌, ◌<◌, ◌∙◌, ap, subst, arith, drop, List, ℕ, Some}
 use Rattle.std.specs.Prelude.{All, slice_get}
+use Rattle.std.proofs.lemmas.List.Elements.{All-head, All-tail}
+use Rattle.ven_base.specs.Store.{Store, store_of}
+use Rattle.ven_base.specs.Job.{Job, HasBeatsLeft, beats_left}
 use Rattle.venice_isa.specs.declared.work.VecWork.{VecWork}
-use Rattle.venice_isa.specs.Beat.{Progress, vector_beats}
-use Rattle.lane_machine.specs.State.{State}
-use Rattle.venice_isa.proofs.OneBeat.{beat_keeps}
-use Rattle.lane_machine.specs.Group.{IsInside}
-use Rattle.lane_machine.proofs.Finishing.{begins_finishing, goes_on_finishing, whole_by_beats}
-use Rattle.spad_store.proofs.Queues.{All-first, some_first}
+use Rattle.venice_isa.specs.Beat.{Progress}
+use Rattle.lane_machine.specs.State.{State, lane_course, LiesIn}
+use Rattle.lane_machine.proofs.Finishing.{first_and_rest, begins_finishing, goes_on_finishing, finishing_inside, jobs_in_the_end, store_in_the_end, finished_memory, finished_whole}
 use Rattle.lane_machine.proofs.lanes.Lanes.finish.Goals as goal
-
-pub beat-requires-clause-cells_inside : goal.beat-requires-clause-cells_inside
-beat-requires-clause-cells_inside c =
-    let works = c.args.self.now.works in
-    let first = some_first works c.requires.some in
-    let work = first.0 in
-    let counted = rw first.1 at c.first_beats-beats.ensures.first in
-    let so_far = rw first.1 at c.loop-k.invariant in
-    let more : c.loop-k._k < vector_beats work c.args.self.now.lanes = omega (arith, counted.0) in
-    let here = so_far.under_way more in
-    subst (λ n. All (λ work. IsInside work n) c.loop-k.self.works) (sym so_far.same_length) (subst (All (λ work. IsInside work (length c.args.cells.now))) (sym here.works_are) c.requires.inside)
 
 pub loop-k-init : goal.loop-k-init
 loop-k-init c =
-    let works = c.args.self.now.works in
-    let first = some_first works c.requires.some in
-    let work = first.0 in
-    let counted = rw first.1 at c.first_beats-beats.ensures.first in
-    rw first.1 (begins_finishing c.args.self.now work c.args.cells.now c.args.memory.now c.requires.begins (omega (arith, counted.0, counted.1)))
+    let self = c.args.self.now in
+    let first = first_and_rest self.jobs c.requires.some in
+    let at_front : slice_get self.jobs 0 ≡ Some first.0 = ap (λ jobs. slice_get jobs 0) first.1 in
+    let left = subst (All (HasBeatsLeft (lane_course self.lanes))) first.1 c.first_beats-beats.ensures.queue.left in
+    rw at_front (begins_finishing self (store_of c.args.cells.now c.args.memory.now) first.0 (drop 1 self.jobs) first.1 (All-head (HasBeatsLeft (lane_course self.lanes)) first.0 (drop 1 self.jobs) left))
+
+pub beat-requires : goal.beat-requires
+beat-requires c =
+    let self = c.args.self.now in
+    let store = store_of c.args.cells.now c.args.memory.now in
+    let first = first_and_rest self.jobs c.requires.some in
+    let at_front : slice_get self.jobs 0 ≡ Some first.0 = ap (λ jobs. slice_get jobs 0) first.1 in
+    let so_far = rw at_front at c.loop-k.invariant in
+    let inside = subst (All (LiesIn store)) first.1 c.requires.inside in
+    finishing_inside self store first.0 (drop 1 self.jobs) c.loop-k._k c.loop-k.self (store_of c.loop-k.cells c.loop-k.memory) so_far (All-head (LiesIn store) first.0 (drop 1 self.jobs) inside) (All-tail (LiesIn store) first.0 (drop 1 self.jobs) inside)
 
 pub loop-k-preserved : goal.loop-k-preserved
 loop-k-preserved c =
-    let works = c.args.self.now.works in
-    let first = some_first works c.requires.some in
-    let work = first.0 in
-    let counted = rw first.1 at c.first_beats-beats.ensures.first in
-    let so_far = rw first.1 at c.loop-k.invariant in
-    let more : c.loop-k._k < vector_beats work c.args.self.now.lanes = omega (arith, counted.0) in
-    let here = so_far.under_way more in
-    let now = c.loop-k.self in
-    let cells = c.loop-k.cells in
-    let at_front : slice_get now.works 0 ≡ Some work = ap (λ works. slice_get works 0) here.works_are ∙ first.1 in
-    let counts = rw first.1 at c.first_beats-beats.ensures.counts in
-    let some : 0 < now.lanes = omega (arith, c.first_beats-beats.ensures.some_lanes, so_far.lanes_are) in
-    let below : now.progress.done < vector_beats work now.lanes = omega (arith, here.done_is, more, ap (vector_beats work) so_far.lanes_are) in
-    let inside : IsInside work (length cells) = subst (IsInside work) (sym so_far.same_length) (All-first (λ work. IsInside work (length c.args.cells.now)) works work c.requires.inside first.1) in
-    let beaten = rw at_front at c.beat.ensures.cells in
-    let memory = rw at_front at c.beat.ensures.memory in
-    let goes_on = rw at_front at c.beat.ensures.goes_on in
-    let ends = rw at_front at c.beat.ensures.ends in
-    let long : length c.beat.new.cells ≡ length cells = ap length beaten ∙ (beat_keeps work now.lanes now.progress some counts below cells inside.written).0 in
-    rw first.1 (goes_on_finishing c.args.self.now work c.args.cells.now c.args.memory.now c.loop-k._k now cells c.loop-k.memory so_far more c.beat.new.self c.beat.new.cells c.beat.new._memory c.beat.ensures.same_setting memory long beaten goes_on ends)
+    let self = c.args.self.now in
+    let store = store_of c.args.cells.now c.args.memory.now in
+    let first = first_and_rest self.jobs c.requires.some in
+    let at_front : slice_get self.jobs 0 ≡ Some first.0 = ap (λ jobs. slice_get jobs 0) first.1 in
+    let so_far = rw at_front at c.loop-k.invariant in
+    let inside = subst (All (LiesIn store)) first.1 c.requires.inside in
+    let counted = rw at_front at c.first_beats-beats.ensures.first in
+    let more : c.loop-k._k < beats_left (lane_course self.lanes) first.0 = omega (arith, counted) in
+    rw at_front (goes_on_finishing self store first.0 (drop 1 self.jobs) c.loop-k._k c.loop-k.self (store_of c.loop-k.cells c.loop-k.memory) so_far c.first_beats-beats.ensures.some_lanes (All-head (LiesIn store) first.0 (drop 1 self.jobs) inside) more
+    c.beat.new.self (store_of c.beat.new.cells c.beat.new._memory) c.beat.ensures.same_setting c.beat.ensures.jobs c.beat.ensures.store)
 
-pub returns-clause-cells : goal.returns-clause-cells
-returns-clause-cells c =
-    let works = c.args.self.now.works in
-    let first = some_first works c.requires.some in
-    let work = first.0 in
-    let counted = rw first.1 at c.first_beats-beats.ensures.first in
-    let so_far = rw first.1 at c.loop-k.invariant in
-    let over = so_far.over (omega (arith, counted.0)) in
-    rw first.1 over.cells_are
+pub returns-clause-store : goal.returns-clause-store
+returns-clause-store c =
+    let self = c.args.self.now in
+    let store = store_of c.args.cells.now c.args.memory.now in
+    let first = first_and_rest self.jobs c.requires.some in
+    let at_front : slice_get self.jobs 0 ≡ Some first.0 = ap (λ jobs. slice_get jobs 0) first.1 in
+    let so_far = rw at_front at c.loop-k.invariant in
+    let counted = rw at_front at c.first_beats-beats.ensures.first in
+    rw at_front (store_in_the_end self store first.0 (drop 1 self.jobs) _ c.loop-k.self (store_of c.loop-k.cells c.loop-k.memory) so_far (omega (arith, counted)))
 
 pub returns-clause-whole : goal.returns-clause-whole
 returns-clause-whole c =
-    let works = c.args.self.now.works in
-    let first = some_first works c.requires.some in
-    let work = first.0 in
-    let counted = rw first.1 at c.first_beats-beats.ensures.first in
-    let so_far = rw first.1 at c.loop-k.invariant in
-    let over = so_far.over (omega (arith, counted.0)) in
-    let inside : IsInside work (length c.args.cells.now) = All-first (λ work. IsInside work (length c.args.cells.now)) works work c.requires.inside first.1 in
-    rw (first.1, over.cells_are) (whole_by_beats work c.args.self.now.lanes c.args.cells.now c.first_beats-beats.ensures.some_lanes inside)
+    let self = c.args.self.now in
+    let store = store_of c.args.cells.now c.args.memory.now in
+    let first = first_and_rest self.jobs c.requires.some in
+    let at_front : slice_get self.jobs 0 ≡ Some first.0 = ap (λ jobs. slice_get jobs 0) first.1 in
+    let so_far = rw at_front at c.loop-k.invariant in
+    let counted = rw at_front at c.first_beats-beats.ensures.first in
+    let inside = subst (All (LiesIn store)) first.1 c.requires.inside in
+    let end = store_in_the_end self store first.0 (drop 1 self.jobs) _ c.loop-k.self (store_of c.loop-k.cells c.loop-k.memory) so_far (omega (arith, counted)) in
+    rw (at_front, ap (λ (s : Store). s.cells) end) (finished_whole self.lanes first.0 store c.first_beats-beats.ensures.some_lanes (All-head (LiesIn store) first.0 (drop 1 self.jobs) inside))
 
 pub returns-clause-length : goal.returns-clause-length
 returns-clause-length c =
-    let works = c.args.self.now.works in
-    let first = some_first works c.requires.some in
-    let so_far = rw first.1 at c.loop-k.invariant in
-    so_far.same_length
+    let first = first_and_rest c.args.self.now.jobs c.requires.some in
+    let at_front : slice_get c.args.self.now.jobs 0 ≡ Some first.0 = ap (λ jobs. slice_get jobs 0) first.1 in
+    let so_far = rw at_front at c.loop-k.invariant in
+    ap (λ size. size.cells) so_far.same_size
 
 pub returns-clause-memory : goal.returns-clause-memory
 returns-clause-memory c =
-    let works = c.args.self.now.works in
-    let first = some_first works c.requires.some in
-    let work = first.0 in
-    let counted = rw first.1 at c.first_beats-beats.ensures.first in
-    let so_far = rw first.1 at c.loop-k.invariant in
-    so_far.memory_is
+    let self = c.args.self.now in
+    let store = store_of c.args.cells.now c.args.memory.now in
+    let first = first_and_rest self.jobs c.requires.some in
+    let at_front : slice_get self.jobs 0 ≡ Some first.0 = ap (λ jobs. slice_get jobs 0) first.1 in
+    let so_far = rw at_front at c.loop-k.invariant in
+    let counted = rw at_front at c.first_beats-beats.ensures.first in
+    let end = store_in_the_end self store first.0 (drop 1 self.jobs) _ c.loop-k.self (store_of c.loop-k.cells c.loop-k.memory) so_far (omega (arith, counted)) in
+    ap (λ (s : Store). s.memory) end ∙ finished_memory self.lanes first.0 store
 
-pub returns-clause-queue : goal.returns-clause-queue
-returns-clause-queue c =
-    let works = c.args.self.now.works in
-    let first = some_first works c.requires.some in
-    let work = first.0 in
-    let counted = rw first.1 at c.first_beats-beats.ensures.first in
-    let so_far = rw first.1 at c.loop-k.invariant in
-    let over = so_far.over (omega (arith, counted.0)) in
-    let made : List VecWork → Progress → ℕ → State = λ works progress lanes. record { works = works; progress = progress; lanes = lanes } in
-    let now = c.loop-k.self in
-    ap (λ works. made works now.progress now.lanes) over.works_are
-    ∙ ap (λ progress. made (drop 1 works) progress now.lanes) (over.progress_is ∙ sym c.requires.begins)
-    ∙ ap (made (drop 1 works) c.args.self.now.progress) so_far.lanes_are
+pub returns-clause-jobs : goal.returns-clause-jobs
+returns-clause-jobs c =
+    let self = c.args.self.now in
+    let store = store_of c.args.cells.now c.args.memory.now in
+    let first = first_and_rest self.jobs c.requires.some in
+    let at_front : slice_get self.jobs 0 ≡ Some first.0 = ap (λ jobs. slice_get jobs 0) first.1 in
+    let so_far = rw at_front at c.loop-k.invariant in
+    let counted = rw at_front at c.first_beats-beats.ensures.first in
+    let jobs = jobs_in_the_end self store first.0 (drop 1 self.jobs) _ c.loop-k.self (store_of c.loop-k.cells c.loop-k.memory) so_far (omega (arith, counted)) in
+    let made : List (Job VecWork Progress) → ℕ → State = λ jobs lanes. record { jobs = jobs; lanes = lanes } in
+    ap (λ jobs. made jobs c.loop-k.self.lanes) jobs ∙ ap (made (drop 1 self.jobs)) so_far.lanes_are
