@@ -83,7 +83,7 @@ module _ (region : Region) (some_bytes : 0 < region.size) (r first count : ℕ) 
 
   -- two lists over which the same is written at the group's place change alike, at bytes of the region
   pub group_alike : {A : Type 0} (d : A) (xs ys new : List A) → length new ≡ count * region.size → place_in region r first + length new ≤ length xs → place_in region r first + length new ≤ length ys → (p : ℕ)
-    → (Covers region p × (slice_get (overwritten ys (place_in region r first) new) p ≡ slice_get (overwritten xs (place_in region r first) new) p)) ⊎ ((slice_get (overwritten xs (place_in region r first) new) p ≡ slice_get xs p) × (slice_get (overwritten ys (place_in region r first) new) p ≡ slice_get ys p))
+      → (Covers region p × (slice_get (overwritten ys (place_in region r first) new) p ≡ slice_get (overwritten xs (place_in region r first) new) p)) ⊎ ((slice_get (overwritten xs (place_in region r first) new) p ≡ slice_get xs p) × (slice_get (overwritten ys (place_in region r first) new) p ≡ slice_get ys p))
   group_alike d xs ys new long inside inside' p =
       elim (written_alike d xs ys (place_in region r first) new inside inside' p) [
         | inl written ↦ inl (covers_group p written.0 (omega (arith, long, written.1)), written.2)

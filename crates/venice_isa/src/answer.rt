@@ -101,7 +101,15 @@ mod tests {
         (VecOp::Sadd, I8, I8, -128, -1, -128, false),
         (VecOp::Sadd, U8, U8, 0, 1, 1, false),
         (VecOp::Ssub, U8, U8, 4, 5, 0, false),
-        (VecOp::Ssub, I32, I32, 2_147_483_647, -1, 2_147_483_647, false),
+        (
+            VecOp::Ssub,
+            I32,
+            I32,
+            2_147_483_647,
+            -1,
+            2_147_483_647,
+            false,
+        ),
     ];
 
     #[test]

@@ -109,7 +109,12 @@ mod tests {
         assert!(rt; !Issue::Read(last).is_in_range(u32::MAX, u32::MAX));
         let empty = DmaWork { rows: 0, ..last };
         assert!(rt; Issue::Write(empty).is_in_range(0, 0));
-        for wait in [Issue::RWait(9), Issue::WWait(9), Issue::VWait, Issue::TWait(9)] {
+        for wait in [
+            Issue::RWait(9),
+            Issue::WWait(9),
+            Issue::VWait,
+            Issue::TWait(9),
+        ] {
             assert!(rt; wait.is_in_range(0, 0));
         }
     }

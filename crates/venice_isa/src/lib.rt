@@ -21,10 +21,10 @@ pub use answer::{result_of, sets_flag};
 pub use issue::Issue;
 pub use kind::VecKind;
 pub use laws::{
-    beats_are_the_copy, beats_are_the_whole, bytes_spell_their_number, next_beat_keeps_to_footprint,
-    numbers_have_one_spelling,
-    read_copies_its_rows, rows_apart_keep_elements_apart, whole_is_determined,
-    whole_reads_its_footprint, whole_writes_its_footprint, write_copies_its_rows,
+    beats_are_the_copy, beats_are_the_whole, bytes_spell_their_number,
+    next_beat_keeps_to_footprint, numbers_have_one_spelling, read_copies_its_rows,
+    rows_apart_keep_elements_apart, whole_is_determined, whole_reads_its_footprint,
+    whole_writes_its_footprint, write_copies_its_rows,
 };
 pub use op::VecOp;
 pub use region::Region;

@@ -117,11 +117,9 @@ impl VecWork {
 
     /// Whether the cells of both sources lie below `cells`.
     fn has_sources_below(&self, cells: u32) -> bool
-        ensures {
-            IsTrue result
+        ensures { IsTrue result
             ↔ (IsFalse self.now.kind.a_scalar → LiesBelow (source_a self.now) cells)
-            × (IsTrue (uses_b self.now.kind.op) → IsFalse self.now.kind.b_scalar → LiesBelow (source_b self.now) cells)
-        }
+            × (IsTrue (uses_b self.now.kind.op) → IsFalse self.now.kind.b_scalar → LiesBelow (source_b self.now) cells) }
     {
         self.has_a_below(cells) && self.has_b_below(cells)
     }
