@@ -1,3 +1,4 @@
+pub mod Firsts
 pub mod Congruence
 pub mod Wrapped
 pub mod Words

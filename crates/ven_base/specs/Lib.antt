@@ -8,6 +8,7 @@ pub mod Extent
 pub mod Place
 pub mod Mapping
 pub mod Grid
+pub mod First
 pub mod Folding
 pub mod Pairs
 pub mod Cell

@@ -4,6 +4,8 @@ pub mod Lexed
 pub mod MemLemmas
 pub mod PieceLemmas
 pub mod Places
+pub mod Reached
+pub mod Readers
 pub mod Settled
 pub mod SinkLemmas
 pub mod Spellings

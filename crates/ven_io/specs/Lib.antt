@@ -7,7 +7,9 @@ pub mod MemSink
 pub mod Number
 pub mod Numbers
 pub mod Pieces
+pub mod Reader
 pub mod Runs
 pub mod Signs
 pub mod Sink
 pub mod Token
+pub mod Tokens
