@@ -1,1 +1,4 @@
 pub mod Queues
+pub mod Bits
+pub mod Words
+pub mod Packing

@@ -1,3 +1,4 @@
 pub mod Cells
 pub mod Sizes
+pub mod Packed
 pub mod Queue

@@ -6,6 +6,7 @@
 //! keeps to, whatever its works are.
 #![tactic(auto)]
 
+mod flags;
 mod memory;
 mod spad;
 mod unit;
@@ -15,35 +16,4 @@ pub use spad::Spad;
 pub use unit::Unit;
 
 #[cfg(test)]
-mod tests {
-    use super::*;
-    use std::test::Fail;
-
-    #[test]
-    fn a_put_changes_one_cell(rt: HostRuntime) -> Result<(), Fail> {
-        let mut spad = Spad::new(rt.alloc(), 4)?;
-        spad.put(2, 255, true);
-        assert_eq!(rt; spad.len(), 4);
-        let cells = [
-            (spad.byte(0), spad.flag(0)),
-            (spad.byte(1), spad.flag(1)),
-            (spad.byte(2), spad.flag(2)),
-            (spad.byte(3), spad.flag(3)),
-        ];
-        assert_eq!(rt; cells, [(0, false), (0, false), (255, true), (0, false)]);
-        spad.put(2, 7, false);
-        assert_eq!(rt; (spad.byte(2), spad.flag(2)), (7, false));
-        Ok(())
-    }
-
-    #[test]
-    fn a_put_changes_one_byte_of_memory(rt: HostRuntime) -> Result<(), Fail> {
-        let mut memory = MainMem::new(rt.alloc(), 3)?;
-        memory.put(1, 9);
-        assert_eq!(rt; memory.len(), 3);
-        assert_eq!(rt; [memory.byte(0), memory.byte(1), memory.byte(2)], [0, 9, 0]);
-        let none = MainMem::new(rt.alloc(), 0)?;
-        assert_eq!(rt; none.len(), 0);
-        Ok(())
-    }
-}
+mod tests;

@@ -1,6 +1,6 @@
 //! The memory of the vector machine.
 
-ghost use Rattle.std.specs.Prelude.{◌≡◌, ◌<◌, ◌≤◌, IfOk, length, replicate, slice_index, slice_set};
+ghost use Rattle.std.specs.Prelude.{◌≡◌, ◌+◌, ◌<◌, ◌≤◌, ◌++◌, IfOk, length, replicate, take, drop, slice_index, slice_set};
 ghost use Rattle.spad_store.specs.Sizes.{most_bytes};
 
 use std::alloc::{AllocError, Global};
@@ -56,5 +56,24 @@ impl MainMem {
         ensures { self.new ≡ slice_set self.old at byte }
     {
         self.bytes[at as usize] = byte;
+    }
+
+    /// Reads the bytes from `at` on, as many as `out` takes. Condition: they lie in the memory.
+    pub fn get_bytes(&self, at: u32, out: &mut [u8])
+        requires { at + length out.old ≤ length self.now }
+        ensures { out.new ≡ take (length out.old) (drop at self.now) }
+    {
+        let at = at as usize;
+        out.copy_from_slice(&self.bytes[at..at + out.len()]);
+    }
+
+    /// Puts bytes at the places from `at` on, and changes no other. Condition: they lie in the memory.
+    pub fn put_bytes(&mut self, at: u32, bytes: &[u8])
+        requires { at + length bytes.now ≤ length self.old }
+        ensures bytes { self.new ≡ take at self.old ++ (bytes.now ++ drop (at + length bytes.now) self.old) }
+        ensures same_length { length self.new ≡ length self.old }
+    {
+        let at = at as usize;
+        self.bytes[at..at + bytes.len()].copy_from_slice(bytes);
     }
 }
