@@ -34,4 +34,4 @@ pub use name::{
 };
 pub use ops::{Fold, Op1, Op2};
 pub use shape::{ELEMENT_LIMIT, Shape};
-pub use wrapping::{bits_of, wrap};
+pub use wrapping::{bits_of, number_of, wrap};

@@ -47,9 +47,9 @@ pub(crate) fn low_bits(n: i64) -> u32
     (n.cast_unsigned() % 0x1_0000_0000) as u32
 }
 
-/// The number of the type that has the lowest of these bits.
+/// The number of the type that has the lowest of these bits, as many as the type is wide. `bits` may be any number.
 #[inline]
-fn number_of(elem: Elem, bits: u32) -> i64
+pub fn number_of(elem: Elem, bits: u32) -> i64
     ensures { result ≡ wrapped elem (pos bits) }
 {
     let n = i64::from(bits);
