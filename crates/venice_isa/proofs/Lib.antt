@@ -11,4 +11,7 @@ pub mod Beats
 pub mod Transfers
 pub mod OneBeat
 pub mod Walks
+pub mod HostSteps
+pub mod KindBytes
+pub mod Encodings
 pub mod Footprints

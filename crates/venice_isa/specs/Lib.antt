@@ -11,3 +11,10 @@ pub mod Beat
 pub mod Does
 pub mod Laws
 pub mod Walk
+pub mod Instr
+pub mod Form
+pub mod Encoding
+pub mod Decoding
+pub mod Code
+pub mod Host
+pub mod HostState

@@ -9,7 +9,13 @@
 #![tactic(auto)]
 
 mod answer;
+mod code;
+mod encoding;
+mod form;
+mod host;
+mod instr;
 mod issue;
+mod issue_list;
 mod kind;
 mod laws;
 mod op;
@@ -18,7 +24,12 @@ mod walk;
 mod work;
 
 pub use answer::{result_of, sets_flag};
+pub use code::Code;
+pub use encoding::{InstrFault, decode, decode_in, encode};
+pub use host::{Deed, HostState};
+pub use instr::{Instr, PARAMETER_COUNT, REGISTER_COUNT, Version};
 pub use issue::Issue;
+pub use issue_list::{IssueFault, issues};
 pub use kind::VecKind;
 pub use laws::{
     beats_are_the_copy, beats_are_the_whole, bytes_spell_their_number,
