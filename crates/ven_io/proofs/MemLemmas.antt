@@ -12,7 +12,7 @@ use Rattle.std.specs.Global.{Vec, Global}
 use Rattle.std.specs.declared.string.String.{String}
 use Rattle.std.proofs.lemmas.Map.Text.{is_eq-slice_cmp, btree_map_updates_text}
 use Rattle.std.specs.FinMap as fin
-use Rattle.ven_io.specs.MemFiles.{held_in}
+use Rattle.ven_io.specs.MemFiles.{contents_of}
 
 -- a list of files is searched by the bytes of their names
 found : (es : List (String Global × Vec ℕ)) (name : List ℕ) →
@@ -28,8 +28,8 @@ found (e ∷ es) name =
     ]
 
 -- what is held at a name is what the map has there
-pub get-held_in : (files : BTreeMap (String Global) (Vec ℕ)) (name : List ℕ) → fin.get (held_in files) name ≡ option_map (λ bytes. bytes.items) (get_by_text files name)
-get-held_in files name = fin.get-from_entries nat_list_cmp_total _ name ∙ found files.entries name
+pub get-contents_of : (files : BTreeMap (String Global) (Vec ℕ)) (name : List ℕ) → fin.get (contents_of files) name ≡ option_map (λ bytes. bytes.items) (get_by_text files name)
+get-contents_of files name = fin.get-from_entries nat_list_cmp_total _ name ∙ found files.entries name
 
 at : (b : Bool) (value : Vec ℕ) (old : Option (Vec ℕ)) → option_map (λ bytes. bytes.items) (cond b (Some value) old) ≡ cond b (Some value.items) (option_map (λ bytes. bytes.items) old)
 at true value old = refl
@@ -39,13 +39,13 @@ turned : (name other : List ℕ) → bytes_eq name other ≡ eq_by_cmp (slice_cm
 turned name other = sym (is_eq-slice_cmp name other) ∙ (eq_by_cmp_equiv nat_list_cmp_total).symm name other
 
 -- an insertion into the map sets that file
-pub held_in-insert : (before after : BTreeMap (String Global) (Vec ℕ)) (name : String Global) (value : Vec ℕ) → Updates string_cmp before after name (Some value) →
-    held_in after ≡ fin.insert (held_in before) (string_bytes name) value.items
-held_in-insert before after name value updates =
+pub contents_of-insert : (before after : BTreeMap (String Global) (Vec ℕ)) (name : String Global) (value : Vec ℕ) → Updates string_cmp before after name (Some value) →
+    contents_of after ≡ fin.insert (contents_of before) (string_bytes name) value.items
+contents_of-insert before after name value updates =
     fin.same_map nat_list_cmp_total (fin.slice_cmp-IsAntisymmetric fin.nat_cmp-IsAntisymmetric) _ _ (λ other.
-    get-held_in after other
+    get-contents_of after other
     ∙ ap (option_map (λ bytes. bytes.items)) (btree_map_updates_text (string_bytes name) before after (Some value) updates other)
     ∙ at (bytes_eq (string_bytes name) other) value (get_by_text before other)
     ∙ ap (λ b. cond b (Some value.items) (option_map (λ bytes. bytes.items) (get_by_text before other))) (turned (string_bytes name) other)
-    ∙ ap (λ old. cond (eq_by_cmp (slice_cmp nat_cmp) other (string_bytes name)) (Some value.items) old) (sym (get-held_in before other))
-    ∙ sym (fin.get-insert nat_list_cmp_total (held_in before) (string_bytes name) value.items other))
+    ∙ ap (λ old. cond (eq_by_cmp (slice_cmp nat_cmp) other (string_bytes name)) (Some value.items) old) (sym (get-contents_of before other))
+    ∙ sym (fin.get-insert nat_list_cmp_total (contents_of before) (string_bytes name) value.items other))

@@ -1,32 +1,31 @@
--- What a sink has taken after several puts.
-use Rattle.std.proofs.Common.{ℕ, ◌+◌, List, [], ◌++◌, take, length, Option, Some, None, refl, sym, ap, subst, ◌∙◌, append_assoc, length-append, arith}
-use Rattle.std.proofs.lemmas.List.{take-append-le, append-nil}
-use Rattle.std.proofs.Math.Seq.{take-append-add}
-use Rattle.ven_io.specs.Sink.{Takes, TakesPart}
+-- Puts into memory, and into a sink of which nothing is known.
+use Rattle.std.proofs.Common.{◌≡◌, ℕ, List, [], ◌∷◌, ◌++◌, Result, Ok, Err, sym, ap, subst, ◌∙◌, rules}
+use Rattle.std.specs.List.{concat}
+use Rattle.std.proofs.lemmas.List.{append-nil}
+use Rattle.std.proofs.lemmas.List.Folds.{concat-append}
+use Rattle.ven_io.specs.declared.sink.OutFault.{OutFault}
+use Rattle.ven_io.specs.declared.sink.OutFault.TheVariants as out
+use Rattle.ven_io.specs.Sink.{SinkState, Takes, Puts}
+use Rattle.ven_io.specs.Numbers.{FailsSometime}
+use Rattle.ven_io.specs.Host as host
 
--- where nothing is put, nothing is taken
-pub Takes-nothing : (taken : Option (List ℕ)) → Takes taken taken []
-Takes-nothing (Some bytes) = ap Some (sym (append-nil bytes))
-Takes-nothing None = refl
+-- bytes that are the pieces, and one more piece behind
+more : (bytes now piece : List ℕ) (earlier : List (List ℕ)) → now ≡ bytes ++ piece → bytes ≡ concat earlier → now ≡ concat (earlier ++ piece ∷ [])
+more bytes now piece earlier put is =
+    put ∙ ap (λ (l : List ℕ). l ++ piece) is ∙ sym (concat-append earlier (piece ∷ []) ∙ ap (λ (l : List ℕ). concat earlier ++ l) (append-nil piece))
 
--- two pieces, one after the other
-pub Takes-then : (before now after : Option (List ℕ)) (first second : List ℕ) → Takes before now first → Takes now after second → Takes before after (first ++ second)
-Takes-then (Some before) now after first second one two =
-    subst (λ bytes. Takes bytes after second) one two ∙ ap Some (append_assoc before first second)
-Takes-then None now after first second one two = subst (λ bytes. Takes bytes after second) one two
+abbrev pub at : List ℕ → List ℕ → ℕ → SinkState
+at bytes fails failed_puts = record { has_taken = λ pieces. bytes ≡ concat pieces; may_fail = FailsSometime fails; failed_puts = failed_puts }
 
--- a prefix of the first of two pieces
-pub TakesPart-more : (before after : Option (List ℕ)) (first second : List ℕ) → TakesPart before after first → TakesPart before after (first ++ second)
-TakesPart-more before after first second part = record {
-  count = part.count;
-  within = omega (arith, part.within, length-append first second);
-  taken = subst (λ front. Takes before after front) (sym (take-append-le part.count first second part.within)) part.taken;
+pub takes : (bytes bytes_now fails fails_now : List ℕ) (count count_now : ℕ) (piece : List ℕ) → bytes_now ≡ bytes ++ piece → fails_now ≡ fails
+    → Takes (at bytes fails count) (at bytes_now fails_now count_now) (piece ∷ [])
+takes bytes bytes_now fails fails_now count count_now piece put same = record {
+  behind = λ earlier is. more bytes bytes_now piece earlier put is;
+  no_worse = λ may. subst (λ (f : List ℕ). FailsSometime f) same may;
 }
 
--- the first of two pieces, and a prefix of the second
-pub Takes-then-part : (before now after : Option (List ℕ)) (first second : List ℕ) → Takes before now first → TakesPart now after second → TakesPart before after (first ++ second)
-Takes-then-part before now after first second one part = record {
-  count = length first + part.count;
-  within = omega (arith, part.within, length-append first second);
-  taken = subst (λ front. Takes before after front) (sym (take-append-add first second part.count)) (Takes-then before now after first (take part.count second) one part.taken);
-}
+-- where nothing is known, any put is right
+pub host_puts : (before after : ℕ) (piece : List ℕ) (r : Result (Unit {0}) OutFault) → Puts (host.sink_state before) (host.sink_state after) piece r
+host_puts before after piece (Ok u) = record { behind = λ earlier is. tt; no_worse = λ f. f }
+host_puts before after piece (Err out.Failed) = (tt, record { count = 0; within = search rules; taken = record { behind = λ earlier is. tt; no_worse = λ f. f } })
+host_puts before after piece (Err out.Memory) = record { behind = λ earlier is. tt; no_worse = λ f. f }

@@ -15,9 +15,12 @@ next numbers = record { fails = numbers.fails; last = one_more numbers.last }
 abbrev pub FailsNext : Numbers → Type 0
 FailsNext numbers = Contains numbers.fails (one_more numbers.last)
 
--- a numbered call: it has the next number, and of the faults of its kind it counts one more where it has failed, and
--- none where it hasn't
+-- some call's number is one of those that fail
+pub record FailsSometime (fails : List ℕ) : Type 0 where
+  pub number : ℕ
+  pub listed : Contains fails number
+
+-- a numbered call: it has the next number, and where it has failed it is counted among the faults of its kind
 pub record CountsCall (before now : Numbers) (faults_before faults_now : ℕ) (has_failed : Type 0) : Type 0 where
   pub numbered : now ≡ next before
   pub counted : CountsFaults faults_before faults_now has_failed
-  pub one : has_failed → faults_now ≡ one_more faults_before

@@ -1,8 +1,7 @@
 //! Files by name: the trait over them, and why a load gives nothing.
 
-ghost use Rattle.std.specs.Prelude.{◌≡◌, ◌↔◌, ℕ, Option, None, IfOk, OnOk, IsErrOf};
-ghost use Rattle.ven_io.specs.Faults.{CountsFaults};
-ghost use Rattle.ven_io.specs.Files.{Held, Shows, Loads, Saves, OthersStay};
+ghost use Rattle.std.specs.Prelude.{◌≡◌, IsErrOf};
+ghost use Rattle.ven_io.specs.Files.{Behaviour, FilesState, OnlyLoads, OnlySaves, Loads, Saves};
 
 use crate::OutFault;
 use std::alloc::Global;
@@ -20,33 +19,31 @@ pub enum LoadFault {
 }
 
 /// Files by name, as a program sees them, and how often a load or a save of theirs has failed.
-/// A count goes up only in a call of its kind that answers Failed, and stays at the greatest u64.
+/// A count goes up by one in a call of its kind that answers Failed, and stays at the greatest u64.
+///
+/// What a load may show and where a call may fail is said by the content, which only a save changes. So a program that is
+/// handed any files has bytes of a name, or a fault of it, only from a call with that very name.
 pub trait Files {
-    /// What the files hold, where they tell it.
-    ghost held: { Self → Option Held };
+    /// What the files hold, as far as it is known.
+    ghost Content: { Type 0 };
 
-    /// How many loads have failed.
-    ghost load_faults: { Self → ℕ };
+    /// What may come of a load and of a save, by what the files hold.
+    ghost behaviour: { Content → Behaviour };
 
-    /// How many saves have failed.
-    ghost save_faults: { Self → ℕ };
+    /// What they hold now, and their faults.
+    ghost state: { Self → FilesState Content };
 
     /// The first `most + 1` bytes of the file, or all where there are fewer. No file is changed.
-    /// Missing exactly where the files tell that no file has that name; Failed only where the count of loads rose;
-    /// Memory is want of memory.
+    /// Missing only where the content says that no file has that name; Failed only where it says that a load of the name
+    /// may fail, and then it is counted; Memory where memory ran out.
     fn load(&mut self, alloc: Global, name: &str, most: u64) -> Result<Vec<u8>, LoadFault>
-        ensures loaded { IfOk result (λ bytes. Loads (held self.old) name.now most bytes.items) }
-        ensures missing { IsErrOf result LoadFault.Missing ↔ Shows (held self.old) name.now None }
-        ensures held { held self.new ≡ held self.old }
-        ensures loads { CountsFaults (load_faults self.old) (load_faults self.new) (IsErrOf result LoadFault.Failed) }
-        ensures saves { save_faults self.new ≡ save_faults self.old };
+        ensures loaded { Loads (behaviour (state self.old).content) name.now most result }
+        ensures only { OnlyLoads (state self.old) (state self.new) (IsErrOf result LoadFault.Failed) };
 
-    /// Sets the file's bytes, and leaves every other file. Failed only where the count of saves rose; then that name may
-    /// hold anything, and every other file stays. After Memory no file has changed.
+    /// Sets the file's bytes, and leaves every other file. Failed only where a save of the name may fail, and then it is
+    /// counted, that name may have anything, and every other file stays. After Memory no file has changed.
     fn save(&mut self, name: &str, bytes: &[u8]) -> Result<(), OutFault>
-        ensures saved { OnOk result (Saves (held self.old) (held self.new) name.now bytes.now) }
-        ensures failed { IsErrOf result OutFault.Failed → OthersStay (held self.old) (held self.new) name.now }
-        ensures memory { IsErrOf result OutFault.Memory → held self.new ≡ held self.old }
-        ensures saves { CountsFaults (save_faults self.old) (save_faults self.new) (IsErrOf result OutFault.Failed) }
-        ensures loads { load_faults self.new ≡ load_faults self.old };
+        ensures saved { Saves (behaviour (state self.old).content) (behaviour (state self.new).content) name.now bytes.now result }
+        ensures memory { IsErrOf result OutFault.Memory → (state self.new).content ≡ (state self.old).content }
+        ensures only { OnlySaves (state self.old) (state self.new) (IsErrOf result OutFault.Failed) };
 }

@@ -1,7 +1,8 @@
 //! The real files.
 
-ghost use Rattle.std.specs.Prelude.{◌≡◌, ◌≤◌, ◌<◌, ◌+◌, None, IfOk, IsErrOf, length};
-ghost use Rattle.ven_io.specs.Faults.{CountsFaults};
+ghost use Rattle.std.specs.Prelude.{◌≡◌, ◌≤◌, ◌+◌, IfOk, IsErrOf, length};
+ghost use Rattle.ven_io.specs.Files.{Loads, Saves, OnlyLoads, OnlySaves};
+ghost use Rattle.ven_io.specs.Host.{files_state, host_behaviour};
 
 use crate::pieces::{read_first, write_whole};
 use crate::{Files, LoadFault, OutFault};
@@ -9,8 +10,8 @@ use std::alloc::Global;
 use std::marker::Model;
 use std::{fs, rt};
 
-/// The real files. They don't tell what they hold, and count each open, read or write that fails, and each
-/// write that takes nothing of what is left.
+/// The real files. Nothing is known of what they hold, and each load or save in which an open, a read, a write or a flush
+/// fails, or a write takes nothing of what is left, is counted once.
 #[derive(Drop)]
 pub struct HostFiles<R> {
     files: R,
@@ -40,18 +41,18 @@ impl<R: rt::Files> HostFiles<R> {
 }
 
 impl<R: rt::Files> Files for HostFiles<R> {
-    ghost held = { λ _. None };
+    ghost Content = { Unit {0} };
 
-    ghost load_faults = { λ s. s.failed_loads };
+    ghost behaviour = { λ _. host_behaviour };
 
-    ghost save_faults = { λ s. s.failed_saves };
+    ghost state = { files_state };
 
     /// It never answers Missing: a file that isn't there is a read that failed.
     fn load(&mut self, alloc: Global, name: &str, most: u64) -> Result<Vec<u8>, LoadFault>
-        ensures loaded { IfOk result (λ bytes. length bytes.items ≤ most + 1) }
+        ensures loaded { Loads host_behaviour name.now most result }
+        ensures only { OnlyLoads (files_state self.old) (files_state self.new) (IsErrOf result LoadFault.Failed) }
+        ensures short { IfOk result (λ bytes. length bytes.items ≤ most + 1) }
         ensures found { IsErrOf result LoadFault.Missing → ⊥ }
-        ensures loads { CountsFaults self.old.failed_loads self.new.failed_loads (IsErrOf result LoadFault.Failed) }
-        ensures saves { self.new.failed_saves ≡ self.old.failed_saves }
     {
         let limit = (most as usize).saturating_add(1);
         let loaded = match fs::open(&self.files, name) {
@@ -66,9 +67,9 @@ impl<R: rt::Files> Files for HostFiles<R> {
 
     /// It never answers Memory.
     fn save(&mut self, name: &str, bytes: &[u8]) -> Result<(), OutFault>
-        ensures saves { CountsFaults self.old.failed_saves self.new.failed_saves (IsErrOf result OutFault.Failed) }
-        ensures no_memory { IsErrOf result OutFault.Memory → ⊥ }
-        ensures loads { self.new.failed_loads ≡ self.old.failed_loads }
+        ensures saved { Saves host_behaviour host_behaviour name.now bytes.now result }
+        ensures memory { IsErrOf result OutFault.Memory → ⊥ }
+        ensures only { OnlySaves (files_state self.old) (files_state self.new) (IsErrOf result OutFault.Failed) }
     {
         let saved = match fs::create(&self.files, name) {
             Ok(mut file) => write_whole(&mut file, bytes),

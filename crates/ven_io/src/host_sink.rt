@@ -1,15 +1,17 @@
 //! The standard output.
 
-ghost use Rattle.std.specs.Prelude.{◌≡◌, None, IsErrOf};
+ghost use Rattle.std.specs.Prelude.{◌≡◌, IsErrOf};
 ghost use Rattle.ven_io.specs.Faults.{CountsFaults};
+ghost use Rattle.ven_io.specs.Sink.{Puts};
+ghost use Rattle.ven_io.specs.Host.{sink_state};
 
 use crate::pieces::write_whole;
 use crate::{OutFault, Sink};
 use std::io::{self, Print};
 use std::marker::Model;
 
-/// The standard output, written piece by piece with nothing kept back. It doesn't tell what it has taken,
-/// and counts each write that fails or takes nothing of what is left.
+/// The standard output, written piece by piece with nothing kept back. Nothing is known of what it has taken, and each put
+/// in which a write or a flush fails, or a write takes nothing of what is left, is counted once.
 #[derive(Drop)]
 pub struct HostSink<R> {
     output: R,
@@ -37,12 +39,11 @@ impl<R: Print> HostSink<R> {
 }
 
 impl<R: Print> Sink for HostSink<R> {
-    ghost taken = { λ _. None };
-
-    ghost faults = { λ s. s };
+    ghost state = { sink_state };
 
     /// It never answers Memory.
     fn put(&mut self, bytes: &[u8]) -> Result<(), OutFault>
+        ensures put { Puts (sink_state self.old) (sink_state self.new) bytes.now result }
         ensures counted { CountsFaults self.old self.new (IsErrOf result OutFault.Failed) }
         ensures no_memory { IsErrOf result OutFault.Memory → ⊥ }
     {

@@ -1,9 +1,10 @@
 //! Files in memory.
 
-ghost use Rattle.std.specs.Prelude.{◌≡◌, ◌+◌, ◌↔◌, [], take, Option, None, Some, IsSome, IfOk, OnOk, OnErr, IsErrOf};
+ghost use Rattle.std.specs.Prelude.{◌≡◌, ◌+◌, ◌↔◌, [], take, None, IsSome, IfOk, OnOk, OnErr, IsErrOf};
 ghost use Rattle.std.specs.Option.{option_map};
 ghost use Rattle.std.specs.FinMap.{empty, get, insert};
-ghost use Rattle.ven_io.specs.Files.{Shows, Loads, OthersStay};
+ghost use Rattle.ven_io.specs.Files.{Loads, Saves, OnlyLoads, OnlySaves};
+ghost use Rattle.ven_io.specs.MemFiles.{MemContent, behaviour_of, files_state, OtherFilesStay};
 ghost use Rattle.ven_io.specs.Numbers.{FailsNext, CountsCall};
 
 use crate::{Files, LoadFault, OutFault};
@@ -24,14 +25,14 @@ pub struct MemFiles {
 }
 
 impl Model for MemFiles {
-    ghost use Rattle.ven_io.specs.MemFiles.{MemFilesState, mem_files_code, held_in};
+    ghost use Rattle.ven_io.specs.MemFiles.{MemFilesState, mem_files_code, contents_of};
 
     ghost Value = { MemFilesState };
 
     ghost coded = { mem_files_code };
 
     ghost view = { λ s. record {
-      holds = held_in s.files;
+      holds = contents_of s.files;
       numbers = record { fails = s.fails.items; last = s.calls };
       failed_loads = s.failed_loads;
       failed_saves = s.failed_saves;
@@ -86,20 +87,19 @@ fn first_bytes(alloc: Global, bytes: &[u8], most: u64) -> Result<Vec<u8>, AllocE
 }
 
 impl Files for MemFiles {
-    ghost held = { λ s. Some s.holds };
+    ghost Content = { MemContent };
 
-    ghost load_faults = { λ s. s.failed_loads };
+    ghost behaviour = { behaviour_of };
 
-    ghost save_faults = { λ s. s.failed_saves };
+    ghost state = { files_state };
 
     /// Failed exactly where a file has that name and this call's number is one of those that fail.
     fn load(&mut self, alloc: Global, name: &str, most: u64) -> Result<Vec<u8>, LoadFault>
-        ensures loaded { IfOk result (λ bytes. Loads (Some self.old.holds) name.now most bytes.items) }
-        ensures missing { IsErrOf result LoadFault.Missing ↔ Shows (Some self.old.holds) name.now None }
-        ensures held { self.new.holds ≡ self.old.holds }
+        ensures loaded { Loads (behaviour_of (files_state self.old).content) name.now most result }
+        ensures only { OnlyLoads (files_state self.old) (files_state self.new) (IsErrOf result LoadFault.Failed) }
+        ensures missing { IsErrOf result LoadFault.Missing ↔ (get self.old.holds name.now ≡ None) }
         ensures fails { IsErrOf result LoadFault.Failed ↔ (IsSome (get self.old.holds name.now) × FailsNext self.old.numbers) }
         ensures call { CountsCall self.old.numbers self.new.numbers self.old.failed_loads self.new.failed_loads (IsErrOf result LoadFault.Failed) }
-        ensures saves { self.new.failed_saves ≡ self.old.failed_saves }
     {
         self.calls = self.calls.saturating_add(1);
         let Some(bytes) = self.get(name) else {
@@ -114,14 +114,14 @@ impl Files for MemFiles {
 
     /// Failed only where this call's number is one of those that fail, and then that file is empty.
     fn save(&mut self, name: &str, bytes: &[u8]) -> Result<(), OutFault>
-        ensures saved { OnOk result (self.new.holds ≡ insert self.old.holds name.now bytes.now) }
-        ensures failed { IsErrOf result OutFault.Failed → self.new.holds ≡ insert self.old.holds name.now [] }
-        ensures others { IsErrOf result OutFault.Failed → OthersStay (Some self.old.holds) (Some self.new.holds) name.now }
-        ensures memory { IsErrOf result OutFault.Memory → self.new.holds ≡ self.old.holds }
+        ensures saved { Saves (behaviour_of (files_state self.old).content) (behaviour_of (files_state self.new).content) name.now bytes.now result }
+        ensures memory { IsErrOf result OutFault.Memory → (files_state self.new).content ≡ (files_state self.old).content }
+        ensures only { OnlySaves (files_state self.old) (files_state self.new) (IsErrOf result OutFault.Failed) }
+        ensures set { OnOk result (self.new.holds ≡ insert self.old.holds name.now bytes.now) }
+        ensures emptied { IsErrOf result OutFault.Failed → self.new.holds ≡ insert self.old.holds name.now [] }
         ensures fails { IsErrOf result OutFault.Failed → FailsNext self.old.numbers }
         ensures passes { OnOk result (¬ FailsNext self.old.numbers) }
         ensures call { CountsCall self.old.numbers self.new.numbers self.old.failed_saves self.new.failed_saves (IsErrOf result OutFault.Failed) }
-        ensures loads { self.new.failed_loads ≡ self.old.failed_loads }
     {
         self.calls = self.calls.saturating_add(1);
         let fails = self.fails.contains(&self.calls);

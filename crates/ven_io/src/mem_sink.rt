@@ -1,7 +1,8 @@
 //! A sink in memory.
 
-ghost use Rattle.std.specs.Prelude.{◌≡◌, ◌/◌, ◌++◌, [], take, length, Some, OnOk, IsErrOf};
-ghost use Rattle.ven_io.specs.Sink.{TakesPart};
+ghost use Rattle.std.specs.Prelude.{◌≡◌, ◌/◌, ◌++◌, [], take, length, OnOk, IsErrOf};
+ghost use Rattle.ven_io.specs.Sink.{Puts};
+ghost use Rattle.ven_io.specs.MemSink.{sink_state};
 ghost use Rattle.ven_io.specs.Numbers.{FailsNext, CountsCall};
 
 use crate::{OutFault, Sink};
@@ -52,16 +53,14 @@ impl MemSink {
 }
 
 impl Sink for MemSink {
-    ghost taken = { λ s. Some s.bytes };
-
-    ghost faults = { λ s. s.failed_puts };
+    ghost state = { sink_state };
 
     /// Failed only where this put's number is one of those that fail; then the first half of the bytes,
     /// rounded down, was taken.
     fn put(&mut self, bytes: &[u8]) -> Result<(), OutFault>
+        ensures put { Puts (sink_state self.old) (sink_state self.new) bytes.now result }
         ensures whole { OnOk result (self.new.bytes ≡ self.old.bytes ++ bytes.now) }
         ensures half { IsErrOf result OutFault.Failed → self.new.bytes ≡ self.old.bytes ++ take (length bytes.now / 2) bytes.now }
-        ensures part { IsErrOf result OutFault.Failed → TakesPart (Some self.old.bytes) (Some self.new.bytes) bytes.now }
         ensures memory { IsErrOf result OutFault.Memory → self.new.bytes ≡ self.old.bytes }
         ensures fails { IsErrOf result OutFault.Failed → FailsNext self.old.numbers }
         ensures passes { OnOk result (¬ FailsNext self.old.numbers) }

@@ -1,8 +1,8 @@
 //! Where output goes: the trait over it, and why a save or a put is not done.
 
-ghost use Rattle.std.specs.Prelude.{◌≡◌, ℕ, List, Option, OnOk, IsErrOf};
+ghost use Rattle.std.specs.Prelude.{IsErrOf};
 ghost use Rattle.ven_io.specs.Faults.{CountsFaults};
-ghost use Rattle.ven_io.specs.Sink.{Takes, TakesPart};
+ghost use Rattle.ven_io.specs.Sink.{SinkState, Puts};
 
 use thiserror::Error;
 
@@ -16,19 +16,14 @@ pub enum OutFault {
 }
 
 /// Where text and lines go, piece by piece, and how often a put has failed.
-/// The count goes up only in a put that answers Failed, and stays at the greatest u64.
+/// The count goes up by one in a put that answers Failed, and stays at the greatest u64.
 pub trait Sink {
-    /// All the bytes that the sink has taken, where it tells them.
-    ghost taken: { Self → Option (List ℕ) };
+    /// Which pieces it may have taken so far, whether a put may fail, and its faults.
+    ghost state: { Self → SinkState };
 
-    /// How many puts have failed.
-    ghost faults: { Self → ℕ };
-
-    /// Appends all the bytes. Failed only where the count rose; then a prefix of them was taken. After Memory nothing of
-    /// them was taken.
+    /// Takes all the bytes, as one piece. Failed only where a put may fail, and then it is counted, and a prefix of the
+    /// bytes was taken. After Memory nothing of them was taken.
     fn put(&mut self, bytes: &[u8]) -> Result<(), OutFault>
-        ensures whole { OnOk result (Takes (taken self.old) (taken self.new) bytes.now) }
-        ensures part { IsErrOf result OutFault.Failed → TakesPart (taken self.old) (taken self.new) bytes.now }
-        ensures memory { IsErrOf result OutFault.Memory → taken self.new ≡ taken self.old }
-        ensures counted { CountsFaults (faults self.old) (faults self.new) (IsErrOf result OutFault.Failed) };
+        ensures put { Puts (state self.old) (state self.new) bytes.now result }
+        ensures counted { CountsFaults (state self.old).failed_puts (state self.new).failed_puts (IsErrOf result OutFault.Failed) };
 }
