@@ -28,8 +28,8 @@ small_operands a v is first second =
     small_array a.first a.columns v.first (array_lexemes a.second a.columns v.second) is.few_columns first
     (subst HasSmallNumbers (append-nil (array_lexemes a.second a.columns v.second)) (small_array a.second a.columns v.second [] is.few_columns second tt))
 
-pub no_operands_lexed : (text : List ℕ) (a : Addition) → IsAddition a → ((lexemes : List Lexeme) → length text ≤ text_limit → HasSmallNumbers lexemes → ¬ IsLexed text lexemes) → (v : Operands) → ¬ DenotesOperands text a v
-no_operands_lexed text a is none v denotes = none (operand_lexemes a v) denotes.short (small_operands a v is denotes.first denotes.second) denotes.lexemes
+pub no_operands_lexed : (text : List ℕ) (a : Addition) → IsAddition a → ((lexemes : List Lexeme) → HasSmallNumbers lexemes → ¬ IsLexed text lexemes) → (v : Operands) → ¬ DenotesOperands text a v
+no_operands_lexed text a is none v denotes = none (operand_lexemes a v) (small_operands a v is denotes.first denotes.second) denotes.lexemes
 
 pub no_operands : (text : List ℕ) (a : Addition) (lexemes : List Lexeme) → IsLexed text lexemes
     → ((v : Operands) → AreValues a.columns v.first → AreValues a.columns v.second → lexemes ≡ operand_lexemes a v → ⊥) → (v : Operands) → ¬ DenotesOperands text a v

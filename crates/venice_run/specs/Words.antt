@@ -1,31 +1,47 @@
--- The words of the command line, and the command that they spell.
+-- The words of the command line, and the request that they spell.
 use Rattle.std.specs.Prelude.{◌≡◌, ℕ, ◌≤◌, List, [], ◌∷◌, map, codes, decimal, String}
 use Rattle.std.specs.String.{string_bytes}
 use Rattle.std.specs.declared.alloc.Global.{Global}
 use Rattle.venice_run.specs.declared.command.Command.{Command}
-use Rattle.venice_run.specs.declared.command.Command.TheVariants.{Run}
+use Rattle.venice_run.specs.declared.command.Command.TheVariants as command
+use Rattle.venice_run.specs.declared.request.Request.{Request}
+use Rattle.venice_run.specs.declared.request.Request.TheVariants.{Run}
 
 -- the bytes of each word
 abbrev pub texts_of : List (String Global) → List (List ℕ)
 texts_of words = map string_bytes words
 
--- how many lanes a machine may have
-abbrev pub IsLaneCount : ℕ → Type 0
-IsLaneCount lanes = (1 ≤ lanes) × (lanes ≤ 4)
+-- the greatest number of lanes of a machine, and the greatest size of a scratchpad in bytes
+abbrev pub most_lanes : ℕ
+most_lanes = 4
 
--- how many bytes a scratchpad may have
-abbrev pub IsScratchpadSize : ℕ → Type 0
-IsScratchpadSize bytes = (1 ≤ bytes) × (bytes ≤ 1048576)
+abbrev pub most_scratchpad : ℕ
+most_scratchpad = 1048576
 
--- `run PROGRAM INPUTS IMAGE LANES SPAD`: three names of files, and two numbers as they are printed
-pub record SpellsRun (words : List (List ℕ)) (lanes spad : ℕ) : Type 0 where
-  pub program : List ℕ
-  pub inputs : List ℕ
-  pub image : List ℕ
-  pub words_are : words ≡ codes "run" ∷ program ∷ inputs ∷ image ∷ decimal lanes ∷ decimal spad ∷ []
-  pub lanes_fit : IsLaneCount lanes
-  pub spad_fits : IsScratchpadSize spad
+-- from 1 to the greatest
+abbrev pub IsUpTo : ℕ → ℕ → Type 0
+IsUpTo most n = (1 ≤ n) × (n ≤ most)
 
--- the words spell the command
-abbrev pub Spells : List (List ℕ) → Command → Type 0
-Spells words (Run lanes spad) = SpellsRun words lanes spad
+-- the words of each request: names of files as they are, numbers as they are printed
+abbrev pub words_of : Request → List (List ℕ)
+words_of (Run program inputs image lanes spad) =
+    codes "run" ∷ program.now ∷ inputs.now ∷ image.now ∷ decimal lanes ∷ decimal spad ∷ []
+
+-- the numbers of each request that are in range
+abbrev pub IsInRange : Request → Type 0
+IsInRange (Run program inputs image lanes spad) = IsUpTo most_lanes lanes × IsUpTo most_scratchpad spad
+
+-- the words spell the request
+pub record Spells (words : List (List ℕ)) (request : Request) : Type 0 where
+  pub words_are : words ≡ words_of request
+  pub in_range : IsInRange request
+
+-- the command of each request
+abbrev pub command_of : Request → Command
+command_of (Run program inputs image lanes spad) = command.Run lanes spad
+
+-- the words spell a request of this command
+pub record SpellsCommand (words : List (List ℕ)) (command : Command) : Type 0 where
+  pub request : Request
+  pub spelled : Spells words request
+  pub is : command ≡ command_of request

@@ -1,42 +1,52 @@
 //! Putting a text line by line.
 
-ghost use Rattle.std.specs.Prelude.{◌≡◌, ◌-◌, ◌<◌, ◌≤◌, length, slice_index, OnOk, IsErrOf};
-ghost use Rattle.ven_io.specs.Faults.{CountsFaults};
-ghost use Rattle.ven_io.specs.Sink.{Takes, TakesPart};
-ghost use Rattle.ven_io.specs.Token.{line_end};
-ghost use Rattle.venice_run.specs.Ending.{TakesLines};
+ghost use Rattle.std.specs.Prelude.{◌≡◌, ◌<◌, ◌≤◌, [], ◌∷◌, take, drop, length};
+ghost use Rattle.venice_run.specs.Lines.{text_lines};
+ghost use Rattle.venice_run.specs.Promise.{Says};
 
+use crate::ending::MEMORY_STATUS;
 use memchr::memchr;
 use ven_io::{OutFault, Sink};
 
-/// Puts the text, each line with its line end as one piece, up to the first put that isn't done.
-/// After `Failed` a prefix of the text was taken, after `Memory` whole lines of it.
-pub(crate) fn put_lines<S: Sink>(out: &mut S, text: &[u8]) -> Result<(), OutFault>
-    ensures whole { OnOk result (Takes (S.taken out.old) (S.taken out.new) text.now) }
-    ensures part { IsErrOf result OutFault.Failed → TakesPart (S.taken out.old) (S.taken out.new) text.now }
-    ensures lines { IsErrOf result OutFault.Memory → TakesLines (S.taken out.old) (S.taken out.new) text.now }
-    ensures counted { CountsFaults (S.faults out.old) (S.faults out.new) (IsErrOf result OutFault.Failed) }
+/// The status where a put failed, which has no line of its own.
+const PUT_STATUS: u8 = 9;
+
+/// Puts the text's lines, each as one piece, up to the first put that isn't done. It answers the status then.
+pub(crate) fn put_text<S: Sink>(status: u8, text: &[u8], out: &mut S) -> u8
+    ensures { Says (S.state out.old) (S.state out.new) status (text_lines text.now) result }
 {
-    let mut start = 0;
-    while start < text.len() {
-        let end = line_end_from(text, start);
-        match out.put(&text[start..end]) {
-            Ok(()) => start = end,
-            Err(fault) => return Err(fault),
+    let mut rest = text;
+    while !rest.is_empty() {
+        let (line, after) = rest.split_at(line_length(rest));
+        match out.put(line) {
+            Ok(()) => rest = after,
+            Err(OutFault::Failed) => return PUT_STATUS,
+            Err(OutFault::Memory) => return MEMORY_STATUS,
         }
     }
-    Ok(())
+    status
 }
 
-/// Where the line that starts there ends, its line end in it.
-fn line_end_from(text: &[u8], start: usize) -> usize
-    requires { start < length text.now }
-    ensures later { start < result }
-    ensures in_text { result ≤ length text.now }
-    ensures ended { result < length text.now → slice_index text.now (result - 1) ≡ line_end }
+/// Puts one line.
+pub(crate) fn put_line<S: Sink>(status: u8, line: &[u8], out: &mut S) -> u8
+    ensures { Says (S.state out.old) (S.state out.new) status (line.now ∷ []) result }
 {
-    match memchr(b'\n', &text[start..]) {
-        Some(length) => start + length + 1,
+    match out.put(line) {
+        Ok(()) => status,
+        Err(OutFault::Failed) => PUT_STATUS,
+        Err(OutFault::Memory) => MEMORY_STATUS,
+    }
+}
+
+/// The length of the first line, its line end in it.
+fn line_length(text: &[u8]) -> usize
+    requires { 0 < length text.now }
+    ensures some { 0 < result }
+    ensures within { result ≤ length text.now }
+    ensures cut { text_lines text.now ≡ take result text.now ∷ text_lines (drop result text.now) }
+{
+    match memchr(b'\n', text) {
+        Some(at) => at + 1,
         None => text.len(),
     }
 }

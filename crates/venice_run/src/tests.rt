@@ -1,6 +1,6 @@
 //! The top call over files and sinks in memory, and the texts that it prints.
 
-use crate::{Command, Refusal, read_words, venice};
+use crate::{Command, Ending, Fault, Kind, Refusal, Shortage, read_words, venice};
 use std::alloc::Global;
 use std::test::Fail;
 use ven_io::{Files, MemFiles, MemSink, OutFault, Sink};
@@ -241,11 +241,10 @@ struct OnePiece {
 }
 
 impl Sink for OnePiece {
-    ghost use Rattle.std.specs.Prelude.{Some};
+    ghost use Rattle.std.specs.Prelude.{◌≡◌};
+    ghost use Rattle.std.specs.List.{concat};
 
-    ghost taken = { λ s. Some s.bytes.items };
-
-    ghost faults = { λ _. 0 };
+    ghost state = { λ s. record { has_taken = λ pieces. s.bytes.items ≡ concat pieces; may_fail = ⊥; failed_puts = 0 } };
 
     fn put(&mut self, bytes: &[u8]) -> Result<(), OutFault> {
         if self.is_full {
@@ -274,27 +273,65 @@ fn lines_stand_where_a_put_lacks_memory(rt: HostRuntime) -> Result<(), Fail> {
 }
 
 #[test]
-fn each_refusal_has_its_status_and_line(rt: HostRuntime) -> Result<(), Fail> {
+fn each_ending_has_its_status_and_line(rt: HostRuntime) -> Result<(), Fail> {
     let alloc = rt.alloc();
+    let shortage = Shortage {
+        need: 14_336,
+        have: 0,
+    };
     let cases = [
-        (Refusal::Usage, 2, "error: usage\n"),
-        (Refusal::ProgramForm, 3, "error: program form\n"),
-        (Refusal::InputsForm, 4, "error: inputs form\n"),
+        (Ending::Refused(Refusal::Usage), 2, "error: usage\n"),
         (
-            Refusal::Scratchpad {
-                need: 14_336,
-                have: 0,
-            },
+            Ending::Refused(Refusal::FileMissing),
+            8,
+            "error: file missing\n",
+        ),
+        (
+            Ending::Refused(Refusal::TooLong(Kind::Program)),
+            3,
+            "error: program too long\n",
+        ),
+        (
+            Ending::Refused(Refusal::TooLong(Kind::Inputs)),
+            4,
+            "error: inputs too long\n",
+        ),
+        (
+            Ending::Refused(Refusal::TooLong(Kind::Grants)),
+            4,
+            "error: grants too long\n",
+        ),
+        (
+            Ending::Refused(Refusal::TooLong(Kind::Image)),
+            6,
+            "error: image too long\n",
+        ),
+        (
+            Ending::Refused(Refusal::TooLong(Kind::Text)),
+            6,
+            "error: text too long\n",
+        ),
+        (
+            Ending::Refused(Refusal::Form(Kind::Program)),
+            3,
+            "error: program form\n",
+        ),
+        (
+            Ending::Refused(Refusal::Form(Kind::Inputs)),
+            4,
+            "error: inputs form\n",
+        ),
+        (
+            Ending::Refused(Refusal::Scratchpad(shortage)),
             5,
             "error: scratchpad need 14336 have 0\n",
         ),
-        (Refusal::File, 8, "error: file\n"),
-        (Refusal::FileMissing, 8, "error: file missing\n"),
-        (Refusal::Memory, 10, "error: memory\n"),
+        (Ending::Failed(Fault::File), 8, "error: file\n"),
+        (Ending::Failed(Fault::Memory), 10, "error: memory\n"),
     ];
-    for (refusal, status, line) in cases {
-        assert_eq!(rt; refusal.status(), status);
-        assert_eq!(rt; refusal.line(alloc)?.as_slice(), line.as_bytes());
+    for (ending, status, line) in cases {
+        assert_eq!(rt; ending.status(), status);
+        assert_eq!(rt; ending.line(alloc)?.as_slice(), line.as_bytes());
     }
     Ok(())
 }

@@ -1,117 +1,135 @@
 //! The top call.
 
-ghost use Rattle.std.specs.Prelude.{◌≡◌, ◌≢◌, ◌⊎◌, IsErrOf};
-ghost use Rattle.ven_io.specs.Faults.{Rose, CountsFaults};
-ghost use Rattle.ven_io.specs.Sink.{Takes};
+ghost use Rattle.std.specs.Prelude.{◌≡◌, ◌≢◌, Err, IsErrOf};
+ghost use Rattle.ven_io.specs.Faults.{CountsFaults};
+ghost use Rattle.ven_io.specs.Files.{OnlyLoads};
+ghost use Rattle.venice_run.specs.Answer.{answer_of};
+ghost use Rattle.venice_run.specs.Commands.{answer_to as answer_to_lem, stages_of};
+ghost use Rattle.venice_run.specs.Outcomes.{outcome_of, SaveEnds};
+ghost use Rattle.venice_run.specs.Promise.{Promise, Comes, SaysOutcome, SaysEnding, Stopped, NotSaved};
+ghost use Rattle.venice_run.specs.Stage.{answered};
 ghost use Rattle.venice_run.specs.Words.{texts_of};
-ghost use Rattle.venice_run.specs.Refusal.{line_of};
-ghost use Rattle.venice_run.specs.Ending.{TakesReply, TakesPartOfAny, TakesLinesOfAny};
-ghost use Rattle.venice_run.specs.Outcome.{Answers};
-ghost use Rattle.venice_run.specs.Putting.{Puts, PutsRefusal, Ends};
 
-use crate::command::read_words;
-use crate::lines::put_lines;
+use crate::answer::{Answer, Save};
+use crate::ending::{Ending, Fault, MEMORY_STATUS};
+use crate::lines::{put_line, put_text};
 use crate::refusal::Refusal;
+use crate::request::{Request, request_of};
 use crate::run::run;
 use std::alloc::Global;
 use ven_io::{Files, OutFault, Sink};
 
-/// The place of the program's name among the words.
-const PROGRAM: usize = 1;
+/// The status where a save failed.
+const SAVE_STATUS: u8 = 14;
 
-/// The place of the inputs' name among the words.
-const INPUTS: usize = 2;
+/// The line where a save failed.
+const SAVE_LINE: &[u8] = b"error: save\n";
 
-/// The status where a put failed, which has no line of its own.
-const PUT_FAILED: u8 = 9;
-
-/// The line of want of memory, which takes none.
+/// The line where memory ran out, which takes none.
 const MEMORY_LINE: &[u8] = b"error: memory\n";
+
+/// What a call means to say: an answer, why there is none, or that its save failed.
+#[derive(Drop)]
+pub(crate) enum Outcome<'a> {
+    Done(Answer<'a>),
+    Stopped(Ending),
+    NotSaved,
+}
 
 /// Does what the words of the command line ask, and answers the status that the program ends with.
 ///
-/// The reply goes to the sink: the command's output, or the one line of its first refusal. Status 8 with
-/// `error: file` comes only where a load failed, status 9 only where a put failed, and status 10 where memory ran out.
-/// docs/FORMATS.md has the words, the output and the order of the refusals, docs/LANGUAGE.md the program's form.
+/// The answer's file is saved and its text goes to the sink, or the one line of the first refusal does. Status 8 with
+/// `error: file` comes only where a load failed, status 14 only where a save did, status 9 only where a put did, and status
+/// 10 where memory ran out. docs/FORMATS.md has the words, the output and the order of the refusals.
 pub fn venice<F: Files, S: Sink>(alloc: Global, words: &[String], files: &mut F, out: &mut S) -> u8
-    // Where nothing outside failed, the whole reply was put.
-    ensures reply { ¬ Rose (F.load_faults files.old) (F.load_faults files.new) → ¬ Rose (S.faults out.old) (S.faults out.new) → result ≢ 10
-        → TakesReply (texts_of words.now) (F.held files.old) (F.held files.new) (S.taken out.old) (S.taken out.new) result }
-
-    // Every status but 8, 9 and 10 is that of a reply, and comes only where nothing outside failed.
-    ensures quiet { result ≢ 8 → result ≢ 9 → result ≢ 10
-        → (F.load_faults files.new ≡ F.load_faults files.old) × (S.faults out.new ≡ S.faults out.old)
-        × TakesReply (texts_of words.now) (F.held files.old) (F.held files.new) (S.taken out.old) (S.taken out.new) result }
-
-    // A file isn't there, and no load failed; or one did.
-    ensures file { result ≡ 8 → (S.faults out.new ≡ S.faults out.old)
-        × (((F.load_faults files.new ≡ F.load_faults files.old)
-        × TakesReply (texts_of words.now) (F.held files.old) (F.held files.new) (S.taken out.old) (S.taken out.new) 8)
-        ⊎ (Rose (F.load_faults files.old) (F.load_faults files.new) × Takes (S.taken out.old) (S.taken out.new) (line_of Refusal.File))) }
-
-    // A put failed.
-    ensures put { result ≡ 9 → Rose (S.faults out.old) (S.faults out.new)
-        × TakesPartOfAny (texts_of words.now) (F.held files.old) (F.load_faults files.old) (F.load_faults files.new) (S.taken out.old) (S.taken out.new) }
-
-    // Memory ran out.
-    ensures memory { result ≡ 10 → (S.faults out.new ≡ S.faults out.old)
-        × (Takes (S.taken out.old) (S.taken out.new) (line_of Refusal.Memory)
-        ⊎ TakesLinesOfAny (texts_of words.now) (F.held files.old) (F.load_faults files.old) (F.load_faults files.new) (S.taken out.old) (S.taken out.new)) }
-
-    // Status 15 is the program's own, for words that the system can't give.
-    ensures never { result ≢ 15 }
-
-    // No command changes a file.
-    ensures held { F.held files.new ≡ F.held files.old }
-    ensures saves { F.save_faults files.new ≡ F.save_faults files.old }
+    ensures promise { Promise F.behaviour (record { files = F.state files.old; sink = S.state out.old })
+        (record { files = F.state files.new; sink = S.state out.new }) (texts_of words.now) result }
 {
-    reply(alloc, words, files, out)
+    let answer = answer_to(alloc, words, files);
+    let outcome = save_answer(files, answer);
+    say(alloc, outcome, out)
 }
 
-/// What is meant to be said, as far as it can be put.
-fn reply<F: Files, S: Sink>(alloc: Global, words: &[String], files: &mut F, out: &mut S) -> u8
-    ensures ends { Ends (texts_of words.now) (F.held files.old) (F.load_faults files.old) (F.load_faults files.new)
-        (S.taken out.old) (S.taken out.new) (S.faults out.old) (S.faults out.new) result }
-    ensures held { F.held files.new ≡ F.held files.old }
-    ensures saves { F.save_faults files.new ≡ F.save_faults files.old }
+/// What the words come to, from the files alone.
+fn answer_to<'a, F: Files>(
+    alloc: Global,
+    words: &'a [String],
+    files: &mut F,
+) -> Result<Answer<'a>, Ending>
+    ensures answer { answer_to_lem (F.behaviour (F.state files.old).content) (texts_of words.now) (answered answer_of result) }
+    ensures only { OnlyLoads (F.state files.old) (F.state files.new) (IsErrOf result (Ending.Failed Fault.File)) }
 {
-    match answer(alloc, words, files) {
-        Ok(text) => put(out, 0, &text),
-        Err(refusal) => refuse(alloc, refusal, out),
+    match request_of(words) {
+        Some(request) => comes_to(alloc, files, request),
+        None => Err(Ending::Refused(Refusal::Usage)),
     }
 }
 
-/// What is printed, or the first refusal.
-fn answer<F: Files>(alloc: Global, words: &[String], files: &mut F) -> Result<Vec<u8>, Refusal>
-    ensures answered { Answers (texts_of words.now) (F.held files.old) result }
-    ensures held { F.held files.new ≡ F.held files.old }
-    ensures loads { CountsFaults (F.load_faults files.old) (F.load_faults files.new) (IsErrOf result Refusal.File) }
-    ensures saves { F.save_faults files.new ≡ F.save_faults files.old }
+/// What the request comes to. Files are only read.
+fn comes_to<'a, F: Files>(
+    alloc: Global,
+    files: &mut F,
+    request: Request<'a>,
+) -> Result<Answer<'a>, Ending>
+    ensures answer { stages_of (F.behaviour (F.state files.old).content) request.entry (answered answer_of result) }
+    ensures only { OnlyLoads (F.state files.old) (F.state files.new) (IsErrOf result (Ending.Failed Fault.File)) }
 {
-    match read_words(words) {
-        Some(command) => {
-            let (program, inputs) = (words[PROGRAM].as_str(), words[INPUTS].as_str());
-            run(alloc, command, program, inputs, files)
-        }
-        None => Err(Refusal::Usage),
+    match request {
+        Request::Run {
+            program,
+            inputs,
+            spad,
+            ..
+        } => run(alloc, files, program, inputs, spad),
     }
 }
 
-fn refuse<S: Sink>(alloc: Global, refusal: Refusal, out: &mut S) -> u8
-    ensures { PutsRefusal (S.taken out.old) (S.taken out.new) (S.faults out.old) (S.faults out.new) refusal result }
+/// Saves what the answer asks for.
+fn save_answer<'a, F: Files>(files: &mut F, answer: Result<Answer<'a>, Ending>) -> Outcome<'a>
+    ensures comes { Comes F.behaviour (F.state files.old).content (F.state files.new).content (λ r. r ≡ answered answer_of answer.entry) (outcome_of result) }
+    ensures loads { (F.state files.new).failed_loads ≡ (F.state files.old).failed_loads }
+    ensures saves { CountsFaults (F.state files.old).failed_saves (F.state files.new).failed_saves (outcome_of result ≡ NotSaved) }
+    ensures file { IsErrOf answer.entry (Ending.Failed Fault.File) → outcome_of result ≡ Stopped (Ending.Failed Fault.File) }
+    ensures file_only { outcome_of result ≡ Stopped (Ending.Failed Fault.File) → IsErrOf answer.entry (Ending.Failed Fault.File) }
 {
-    match refusal.line(alloc) {
-        Ok(line) => put(out, refusal.status(), &line),
-        Err(_) => put(out, Refusal::Memory.status(), MEMORY_LINE),
+    match answer {
+        Ok(answer) => match make_save(files, &answer.save) {
+            Ok(()) => Outcome::Done(answer),
+            Err(OutFault::Failed) => Outcome::NotSaved,
+            Err(OutFault::Memory) => Outcome::Stopped(Ending::Failed(Fault::Memory)),
+        },
+        Err(ending) => Outcome::Stopped(ending),
     }
 }
 
-fn put<S: Sink>(out: &mut S, status: u8, text: &[u8]) -> u8
-    ensures { Puts (S.taken out.old) (S.taken out.new) (S.faults out.old) (S.faults out.new) status text.now result }
+/// Makes the save that is asked for, if one is.
+fn make_save<F: Files>(files: &mut F, save: &Option<Save<'_>>) -> Result<(), OutFault>
+    ensures saved { SaveEnds F.behaviour (F.state files.old).content (F.state files.new).content save.now result }
+    ensures loads { (F.state files.new).failed_loads ≡ (F.state files.old).failed_loads }
+    ensures saves { CountsFaults (F.state files.old).failed_saves (F.state files.new).failed_saves (IsErrOf result OutFault.Failed) }
 {
-    match put_lines(out, text) {
-        Ok(()) => status,
-        Err(OutFault::Failed) => PUT_FAILED,
-        Err(OutFault::Memory) => Refusal::Memory.status(),
+    match save {
+        Some(save) => files.save(save.name, &save.bytes),
+        None => Ok(()),
+    }
+}
+
+/// Puts the answer's lines, or the line of why there is none.
+fn say<S: Sink>(alloc: Global, outcome: Outcome<'_>, out: &mut S) -> u8
+    ensures { SaysOutcome (S.state out.old) (S.state out.new) (outcome_of outcome.entry) result }
+{
+    match outcome {
+        Outcome::Done(answer) => put_text(answer.status(), &answer.text, out),
+        Outcome::Stopped(ending) => say_ending(alloc, ending, out),
+        Outcome::NotSaved => put_line(SAVE_STATUS, SAVE_LINE, out),
+    }
+}
+
+fn say_ending<S: Sink>(alloc: Global, ending: Ending, out: &mut S) -> u8
+    ensures { SaysEnding (S.state out.old) (S.state out.new) ending result }
+{
+    match ending.line(alloc) {
+        Ok(line) => put_line(ending.status(), &line, out),
+        Err(_) => put_line(MEMORY_STATUS, MEMORY_LINE, out),
     }
 }

@@ -1,0 +1,60 @@
+-- Plain decimals, and words that are looked at one by one.
+use Rattle.std.proofs.Common.{◌≡◌, ℕ, ◌^◌, ◌<◌, ◌≤◌, List, [], ◌∷◌, length, get_or, Result, Ok, Err, Bool, true, false, IsTrue, refl, sym, ap, ◌∙◌, arith}
+use Rattle.std.specs.Prelude.{codes, decimal, String}
+use Rattle.std.specs.String.{string_bytes}
+use Rattle.std.specs.Str.Parse.{ParsesUnsigned}
+use Rattle.std.specs.declared.alloc.Global.{Global}
+use Rattle.std.proofs.lemmas.Fmt.{parse-decimal}
+use Rattle.std.proofs.lemmas.List.{get_or-map}
+use Rattle.venice_run.specs.declared.request.Request.{Request}
+use Rattle.venice_run.specs.declared.request.Request.TheVariants.{Run}
+use Rattle.venice_run.specs.Requests.{IsRun}
+use Rattle.venice_run.specs.Words.{texts_of, IsUpTo, Spells}
+
+read : {E : Type 0} (text : List ℕ) (most n : ℕ) (r : Result ℕ E) → most < 2 ^ 32 → n ≤ most → text ≡ decimal n → ParsesUnsigned 32 10 text r → r ≡ Ok n
+read text most n r small le is parsed = parse-decimal 32 n text r (omega arith) (omega arith) is parsed
+
+ok_is : {E : Type 0} (m n : ℕ) → ◌≡◌ {A = Result ℕ E} (Ok m) (Ok n) → m ≡ n
+ok_is m n e = cc
+
+not_ok : {E : Type 0} (e : E) (n : ℕ) → ◌≡◌ {A = Result ℕ E} (Err e) (Ok n) → ⊥
+not_ok e n h = cc
+
+-- a plain decimal is read as its number
+pub is_read : {E : Type 0} (text : List ℕ) (most n m : ℕ) (r : Result ℕ E) → most < 2 ^ 32 → n ≤ most → text ≡ decimal n → ParsesUnsigned 32 10 text r → r ≡ Ok m → m ≡ n
+is_read {E} text most n m r small le is parsed found = ok_is {E = E} m n (sym found ∙ read text most n r small le is parsed)
+
+-- and it is read
+pub not_refused : {E : Type 0} (text : List ℕ) (most n : ℕ) (e : E) (r : Result ℕ E) → most < 2 ^ 32 → n ≤ most → text ≡ decimal n → ParsesUnsigned 32 10 text r → r ≡ Err e → ⊥
+not_refused {E} text most n e r small le is parsed found = not_ok {E = E} e n (sym found ∙ read text most n r small le is parsed)
+
+-- a text that a number prints is told to be so
+pub not_plain : (text : List ℕ) (m n : ℕ) (test : Bool) → m ≡ n → text ≡ decimal n → test ≡ false → (text ≡ decimal m → IsTrue test) → ⊥
+not_plain text m n true e is off told = absurd cc
+not_plain text m n false e is off told = let told_true : IsTrue false = told (is ∙ ap decimal (sym e)) in cc
+
+-- a word at its place
+pub word_at : (words : List (String Global)) (word : String Global) (k : ℕ) → word ≡ get_or words k word → k < length words → string_bytes word ≡ get_or (texts_of words) k []
+word_at words word k is lt = ap string_bytes is ∙ sym (get_or-map string_bytes words k word [] lt)
+
+-- `run`: the fifth and the sixth word are its numbers
+pub no_lanes : (words : List (String Global)) (word : String Global) → word ≡ get_or words 4 word → 6 ≤ length words → ((n : ℕ) → IsUpTo 4 n → string_bytes word ≡ decimal n → ⊥)
+    → (request : Request) → IsRun request → ¬ Spells (texts_of words) request
+no_lanes words word is long none (Run program inputs image lanes spad) run spells =
+    none lanes spells.in_range.0 (word_at words word 4 is (omega arith) ∙ ap (λ (ws : List (List ℕ)). get_or ws 4 []) spells.words_are)
+
+pub no_spad : (words : List (String Global)) (word : String Global) → word ≡ get_or words 5 word → 6 ≤ length words → ((n : ℕ) → IsUpTo 1048576 n → string_bytes word ≡ decimal n → ⊥)
+    → (request : Request) → IsRun request → ¬ Spells (texts_of words) request
+no_spad words word is long none (Run program inputs image lanes spad) run spells =
+    none spad spells.in_range.1 (word_at words word 5 is (omega arith) ∙ ap (λ (ws : List (List ℕ)). get_or ws 5 []) spells.words_are)
+
+-- six words, one by one
+pub six : (words : List (String Global)) (a b c d e f : String Global) → 6 ≤ length words → length words < 7
+    → a ≡ get_or words 0 a → b ≡ get_or words 1 b → c ≡ get_or words 2 c → d ≡ get_or words 3 d → e ≡ get_or words 4 e → f ≡ get_or words 5 f
+    → texts_of words ≡ string_bytes a ∷ string_bytes b ∷ string_bytes c ∷ string_bytes d ∷ string_bytes e ∷ string_bytes f ∷ []
+six (u ∷ v ∷ w ∷ x ∷ y ∷ z ∷ []) a b c d e f low high p0 p1 p2 p3 p4 p5 = cc
+six _ a b c d e f low high p0 p1 p2 p3 p4 p5 = absurd (omega arith)
+
+-- words that spell no request
+pub none : (words : List (List ℕ)) → ((request : Request) → IsRun request → ¬ Spells words request) → (request : Request) → ¬ Spells words request
+none words no_run (Run program inputs image lanes spad) spells = no_run (Run program inputs image lanes spad) tt spells

@@ -1,0 +1,84 @@
+//! How a command ends without its output.
+
+ghost use Rattle.std.specs.Prelude.{◌≡◌, IfOk};
+ghost use Rattle.venice_run.specs.Line.{status_of, line_of};
+
+use crate::line::{Part, line_with, refusal_line};
+use crate::refusal::{Refusal, Shortage};
+use std::alloc::{AllocError, AllocFailed, Global};
+
+/// A fault of the outside.
+#[derive(Clone, Copy, Debug, PartialEq, Eq)]
+pub enum Fault {
+    /// A load failed.
+    File,
+    /// Memory ran out.
+    Memory,
+}
+
+/// A command ends without its output: by a refusal, or by a fault of the outside.
+#[derive(Clone, Copy, Debug, PartialEq, Eq)]
+pub enum Ending {
+    Refused(Refusal),
+    Failed(Fault),
+}
+
+/// The status where memory ran out.
+pub(crate) const MEMORY_STATUS: u8 = 10;
+
+impl Ending {
+    /// The status that the program ends with.
+    pub fn status(self) -> u8
+        ensures { result ≡ status_of self }
+    {
+        match self {
+            Ending::Refused(refusal) => refusal.status(),
+            Ending::Failed(Fault::File) => 8,
+            Ending::Failed(Fault::Memory) => MEMORY_STATUS,
+        }
+    }
+
+    /// The line that is printed, with its line end. `AllocError` where there is no memory for the line.
+    pub fn line(self, alloc: Global) -> Result<Vec<u8>, AllocError>
+        ensures { IfOk result (λ line. line.items ≡ line_of self) }
+    {
+        match self {
+            Ending::Refused(refusal) => refusal_line(alloc, refusal),
+            Ending::Failed(Fault::File) => line_with(alloc, &[Part::Words(b"file")]),
+            Ending::Failed(Fault::Memory) => line_with(alloc, &[Part::Words(b"memory")]),
+        }
+    }
+}
+
+impl From<AllocError> for Ending {
+    ghost use Rattle.venice_run.specs.declared.ending.Ending.TheVariants.{Failed};
+    ghost use Rattle.venice_run.specs.declared.ending.Fault.TheVariants.{Memory};
+
+    ghost from_gives = { λ _ ending. ending ≡ Failed Memory };
+
+    fn from(_: AllocError) -> Ending {
+        Ending::Failed(Fault::Memory)
+    }
+}
+
+impl<T: Drop> From<AllocFailed<T>> for Ending {
+    ghost use Rattle.venice_run.specs.declared.ending.Ending.TheVariants.{Failed};
+    ghost use Rattle.venice_run.specs.declared.ending.Fault.TheVariants.{Memory};
+
+    ghost from_gives = { λ _ ending. ending ≡ Failed Memory };
+
+    fn from(_: AllocFailed<T>) -> Ending {
+        Ending::Failed(Fault::Memory)
+    }
+}
+
+impl From<Shortage> for Ending {
+    ghost use Rattle.venice_run.specs.declared.ending.Ending.TheVariants.{Refused};
+    ghost use Rattle.venice_run.specs.declared.refusal.Refusal.TheVariants.{Scratchpad};
+
+    ghost from_gives = { λ shortage ending. ending ≡ Refused (Scratchpad shortage) };
+
+    fn from(shortage: Shortage) -> Ending {
+        Ending::Refused(Refusal::Scratchpad(shortage))
+    }
+}

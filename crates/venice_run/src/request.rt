@@ -1,0 +1,80 @@
+//! What the words of the command line ask for, with the names in them.
+
+ghost use Rattle.std.specs.Prelude.{◌≡◌, ◌↔◌, ℕ, decimal, IsTrue, MatchOption};
+ghost use Rattle.venice_run.specs.Words.{texts_of, Spells, IsUpTo, command_of};
+ghost use Rattle.venice_run.specs.Requests.{IsRun};
+
+use crate::command::Command;
+use itoa::Buffer;
+
+/// The greatest number of lanes of a machine.
+const MOST_LANES: u32 = 4;
+
+/// The greatest size of a scratchpad, in bytes.
+const MOST_SCRATCHPAD: u32 = 1_048_576;
+
+/// A command with its names and numbers.
+#[derive(Clone, Copy)]
+pub(crate) enum Request<'a> {
+    Run {
+        program: &'a str,
+        inputs: &'a str,
+        image: &'a str,
+        lanes: u32,
+        spad: u32,
+    },
+}
+
+impl Request<'_> {
+    pub fn command(self) -> Command
+        ensures { result ≡ command_of self.entry }
+    {
+        match self {
+            Request::Run { lanes, spad, .. } => Command::Run { lanes, spad },
+        }
+    }
+}
+
+/// The request that the words spell, or `None` exactly where they spell none.
+pub(crate) fn request_of(words: &[String]) -> Option<Request<'_>>
+    ensures { MatchOption result ((request : Request) → ¬ Spells (texts_of words.now) request) (Spells (texts_of words.now)) }
+{
+    run_request(words)
+}
+
+fn run_request(words: &[String]) -> Option<Request<'_>>
+    ensures { MatchOption result ((request : Request) → IsRun request → ¬ Spells (texts_of words.now) request) (Spells (texts_of words.now)) }
+{
+    let [word, program, inputs, image, lanes, spad] = words else {
+        return None;
+    };
+    if word.as_str() != "run" {
+        return None;
+    }
+    let lanes = number_up_to(MOST_LANES, lanes)?;
+    let spad = number_up_to(MOST_SCRATCHPAD, spad)?;
+    Some(Request::Run {
+        program,
+        inputs,
+        image,
+        lanes,
+        spad,
+    })
+}
+
+/// The number from 1 to `most` that the text is the plain decimal of.
+fn number_up_to(most: u32, text: &str) -> Option<u32>
+    ensures { MatchOption result ((n : ℕ) → IsUpTo most n → text.now ≡ decimal n → ⊥) (λ n. IsUpTo most n × (text.now ≡ decimal n)) }
+{
+    match text.parse::<u32>() {
+        Ok(number) if number != 0 && number <= most && is_plain(number, text) => Some(number),
+        _ => None,
+    }
+}
+
+/// Whether the text is what the number prints.
+fn is_plain(number: u32, text: &str) -> bool
+    ensures { IsTrue result ↔ (text.now ≡ decimal number) }
+{
+    Buffer::new().format(number) == text
+}
