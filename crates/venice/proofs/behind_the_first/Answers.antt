@@ -1,0 +1,12 @@
+use Rattle.std.proofs.Common.{◌≡◌, length, ap, rules}
+use Rattle.std.specs.Iterator.Adapters.{skip_source}
+use Rattle.std.specs.Vec.Iter.{into_iter_items, into_iter_len}
+use Rattle.std.proofs.lemmas.Iterator.{items_from_collect}
+use Rattle.std.proofs.lemmas.Iterator.Adapters.{YieldsList-from_skip, YieldsList-from_vec}
+use Rattle.venice.proofs.behind_the_first.Goals as goal
+
+pub returns : goal.returns
+returns c =
+    let counted : into_iter_len (skip_source c.skip.result) ≡ length (into_iter_items c.args.args) = search rules in
+    items_from_collect _ c.collect.ensures.ran
+    (YieldsList-from_skip 1 (YieldsList-from_vec (into_iter_items c.args.args) (ap into_iter_items c.skip.ensures.source) counted) c.skip.ensures.count)
