@@ -5,7 +5,7 @@
 ghost use Rattle.std.specs.Prelude.{◌≡◌, ◌⊎◌, drop, IfOk, OnErr};
 ghost use Rattle.std.specs.Process.{exit_status};
 ghost use Rattle.std.specs.Vec.Iter.{into_iter_items};
-ghost use Rattle.venice_run.specs.Promise.{Promise};
+ghost use Rattle.venice_run.specs.Promise.{Promise, moment};
 ghost use Rattle.venice_run.specs.Words.{texts_of};
 
 use std::alloc::{AllocError, Global};
@@ -37,7 +37,7 @@ fn status_of<F: Files, S: Sink>(
     // Else it is the promise for all words but the first; or memory ran out while they were gathered, and nothing was done.
     ensures promise { IfOk args (λ given.
         ((exit_status result ≡ 15) × (files.new ≡ files.old) × (out.new ≡ out.old))
-        ⊎ Promise F.behaviour (record { files = F.state files.old; sink = S.state out.old }) (record { files = F.state files.new; sink = S.state out.new })
+        ⊎ Promise F.behaviour (moment (F.state files.old) (S.state out.old)) (moment (F.state files.new) (S.state out.new))
         (texts_of (drop 1 (into_iter_items given))) (exit_status result)) }
 {
     let Ok(args) = args else {

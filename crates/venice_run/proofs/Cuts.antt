@@ -1,5 +1,6 @@
 -- Where a text's first line ends.
-use Rattle.std.proofs.Common.{◌≡◌, ℕ, zero, suc, ◌<◌, ◌≤◌, ◌==◌, true, cond, List, [], ◌∷◌, take, drop, length, slice_index, refl, sym, ap, ◌∙◌, arith}
+use Rattle.std.proofs.Common.{◌≡◌, ℕ, zero, suc, ◌<◌, ◌≤◌, ◌==◌, Bool, true, false, cond, List, [], ◌∷◌, take, drop, length, slice_index, refl, sym, ap, ◌∙◌, arith}
+use Rattle.std.specs.List.{concat}
 use Rattle.std.proofs.lemmas.Bool.{false_from_ne_true}
 use Rattle.std.proofs.lemmas.List.{take_all}
 use Rattle.venice_run.specs.Lines.{before_lines, text_lines}
@@ -44,3 +45,17 @@ pub no_lines : (text : List ℕ) → length text ≡ 0 → text_lines text ≡ [
 unfolding text_lines
 no_lines [] e = refl
 no_lines (b ∷ text) e = absurd (omega arith)
+
+-- the lines are the text
+before_lines_join : (byte : ℕ) (lines : List (List ℕ)) → concat (before_lines byte lines) ≡ byte ∷ concat lines
+before_lines_join byte [] = refl
+before_lines_join byte (line ∷ lines) = refl
+
+pub lines_join : (text : List ℕ) → concat (text_lines text) ≡ text
+unfolding text_lines
+lines_join [] = refl
+lines_join (byte ∷ rest) =
+    elim (byte == 10) as (λ (t : Bool). concat (cond t ((byte ∷ []) ∷ text_lines rest) (before_lines byte (text_lines rest))) ≡ byte ∷ rest) [
+      | true ↦ ap (λ (l : List ℕ). byte ∷ l) (lines_join rest)
+      | false ↦ before_lines_join byte (text_lines rest) ∙ ap (λ (l : List ℕ). byte ∷ l) (lines_join rest)
+    ]

@@ -1,3 +1,5 @@
+pub mod Lawful
+pub mod Complete
 pub mod Parts
 pub mod Cuts
 pub mod Taking

@@ -14,6 +14,7 @@ pub mod Commands
 pub mod Lines
 pub mod Promise
 pub mod Outcomes
+pub mod Laws
 pub mod Tile
 pub mod TileLaw
 pub mod Executor

@@ -18,6 +18,9 @@ pub record Moment (Content : Type 0) : Type 1 where
   pub files : FilesState Content
   pub sink : SinkState
 
+abbrev pub moment : {Content : Type 0} → FilesState Content → SinkState → Moment Content
+moment files sink = record { files = files; sink = sink }
+
 -- what a call means to say: an answer, why there is none, or that its save failed
 pub data Outcome : Type 0 where
   Done : Answer → Outcome

@@ -7,6 +7,7 @@ mod command;
 mod ending;
 mod executor;
 mod items;
+mod laws;
 mod line;
 mod lines;
 mod operands;
@@ -21,6 +22,7 @@ mod top;
 
 pub use command::{Command, read_words};
 pub use ending::{Ending, Fault};
+pub use laws::{lines_are_the_text, one_answer, promise_is_complete};
 pub use refusal::{Kind, Refusal, Shortage};
 pub use tile::{one_tile, one_tile_adds};
 pub use top::venice;

@@ -6,7 +6,7 @@ ghost use Rattle.ven_io.specs.Files.{OnlyLoads};
 ghost use Rattle.venice_run.specs.Answer.{answer_of};
 ghost use Rattle.venice_run.specs.Commands.{answer_to as answer_to_lem, stages_of};
 ghost use Rattle.venice_run.specs.Outcomes.{outcome_of, SaveEnds};
-ghost use Rattle.venice_run.specs.Promise.{Promise, Comes, SaysOutcome, SaysEnding, Stopped, NotSaved};
+ghost use Rattle.venice_run.specs.Promise.{Promise, moment, Comes, SaysOutcome, SaysEnding, Stopped, NotSaved};
 ghost use Rattle.venice_run.specs.Stage.{answered};
 ghost use Rattle.venice_run.specs.Words.{texts_of};
 
@@ -42,8 +42,8 @@ pub(crate) enum Outcome<'a> {
 /// `error: file` comes only where a load failed, status 14 only where a save did, status 9 only where a put did, and status
 /// 10 where memory ran out. docs/FORMATS.md has the words, the output and the order of the refusals.
 pub fn venice<F: Files, S: Sink>(alloc: Global, words: &[String], files: &mut F, out: &mut S) -> u8
-    ensures promise { Promise F.behaviour (record { files = F.state files.old; sink = S.state out.old })
-        (record { files = F.state files.new; sink = S.state out.new }) (texts_of words.now) result }
+    ensures promise { Promise F.behaviour (moment (F.state files.old) (S.state out.old)) (moment (F.state files.new) (S.state out.new))
+        (texts_of words.now) result }
 {
     let answer = answer_to(alloc, words, files);
     let outcome = save_answer(files, answer);
