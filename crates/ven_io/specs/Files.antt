@@ -7,8 +7,8 @@ use Rattle.ven_io.specs.declared.files.LoadFault.TheVariants as load
 use Rattle.ven_io.specs.declared.sink.OutFault.{OutFault}
 use Rattle.ven_io.specs.declared.sink.OutFault.TheVariants as out
 
--- What may come of a load and of a save, name by name: what a load may show (its bytes, or that there is no such file), and
--- whether a load or a save may fail.
+-- What may come of a load and of a save, name by name: what a load may show (the file's bytes, or that there is no such
+-- file), and whether a load or a save may fail.
 pub record Behaviour : Type 1 where
   pub shows : List ℕ → Option (List ℕ) → Type 0
   pub load_may_fail : List ℕ → Type 0
@@ -20,7 +20,7 @@ pub record FilesState (Content : Type 0) : Type 0 where
   pub failed_loads : ℕ
   pub failed_saves : ℕ
 
--- From one moment to a later one there were only loads: no file has changed, and one load has failed where that is said, else none.
+-- Between two moments there were only loads: no file has changed, and one load has failed where that is said, else none.
 pub record OnlyLoads {Content : Type 0} (before after : FilesState Content) (load_failed : Type 0) : Type 0 where
   pub content : after.content ≡ before.content
   pub loads : CountsFaults before.failed_loads after.failed_loads load_failed
@@ -33,7 +33,8 @@ pub record OnlySaves {Content : Type 0} (before after : FilesState Content) (sav
 
 -- a load: the first `most + 1` bytes of what is shown, or all where there are fewer; or why there are none
 abbrev pub Loads : Behaviour → List ℕ → ℕ → Result (Vec ℕ) LoadFault → Type 0
-Loads files name most (Ok bytes) = (content : List ℕ) × files.shows name (Some content) × (bytes.items ≡ take (most + 1) content)
+Loads files name most (Ok bytes) =
+    (content : List ℕ) × files.shows name (Some content) × (bytes.items ≡ take (most + 1) content)
 Loads files name most (Err load.Missing) = files.shows name None
 Loads files name most (Err load.Failed) = files.load_may_fail name
 Loads files name most (Err load.Memory) = Unit {0}

@@ -25,9 +25,15 @@ pub record MemFilesState : Type 0 where
 abbrev pub mem_files_code : Coded MemFilesState
 mem_files_code =
     code_by ((Contents × List ℕ) × (ℕ × (ℕ × ℕ)))
-    (coded× (coded× (fin.code (coded_list coded_ℕ) (coded_list coded_ℕ)) (coded_list coded_ℕ)) (coded× coded_ℕ (coded× coded_ℕ coded_ℕ)))
+    (coded× (coded× (fin.code (coded_list coded_ℕ) (coded_list coded_ℕ)) (coded_list coded_ℕ))
+    (coded× coded_ℕ (coded× coded_ℕ coded_ℕ)))
     (λ s. ((s.holds, s.numbers.fails), (s.numbers.last, (s.failed_loads, s.failed_saves))))
-    (λ p. record { holds = p.0.0; numbers = record { fails = p.0.1; last = p.1.0 }; failed_loads = p.1.1.0; failed_saves = p.1.1.1 }) (λ _. refl)
+    (λ p. record {
+      holds = p.0.0;
+      numbers = record { fails = p.0.1; last = p.1.0 };
+      failed_loads = p.1.1.0;
+      failed_saves = p.1.1.1;
+    }) (λ _. refl)
 
 -- what a map from texts to bytes holds
 abbrev pub contents_of : BTreeMap (String Global) (Vec ℕ) → Contents

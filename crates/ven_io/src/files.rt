@@ -21,8 +21,8 @@ pub enum LoadFault {
 /// Files by name, as a program sees them, and how often a load or a save of theirs has failed.
 /// A count goes up by one in a call of its kind that answers Failed, and stays at the greatest u64.
 ///
-/// What a load may show and where a call may fail is said by the content, which only a save changes. So a program that is
-/// handed any files has bytes of a name, or a fault of it, only from a call with that very name.
+/// What a load may show and where a call may fail is said by the content, which only a save changes. So a program that
+/// is handed any files has bytes of a name, or a fault of it, only from a call with that very name.
 pub trait Files {
     /// What the files hold, as far as it is known.
     ghost Content: { Type 0 };
@@ -34,16 +34,17 @@ pub trait Files {
     ghost state: { Self → FilesState Content };
 
     /// The first `most + 1` bytes of the file, or all where there are fewer. No file is changed.
-    /// Missing only where the content says that no file has that name; Failed only where it says that a load of the name
-    /// may fail, and then it is counted; Memory where memory ran out.
+    /// Missing only where the content says that no file has that name; Failed only where it says that a load of the
+    /// name may fail, and then it is counted; Memory where memory ran out.
     fn load(&mut self, alloc: Global, name: &str, most: u64) -> Result<Vec<u8>, LoadFault>
         ensures loaded { Loads (behaviour (state self.old).content) name.now most result }
         ensures only { OnlyLoads (state self.old) (state self.new) (IsErrOf result LoadFault.Failed) };
 
-    /// Sets the file's bytes, and leaves every other file. Failed only where a save of the name may fail, and then it is
-    /// counted, that name may have anything, and every other file stays. After Memory no file has changed.
+    /// Sets the file's bytes, and leaves every other file. Failed only where a save of the name may fail, and then it
+    /// is counted, that name may have anything, and every other file stays. After Memory no file has changed.
     fn save(&mut self, name: &str, bytes: &[u8]) -> Result<(), OutFault>
-        ensures saved { Saves (behaviour (state self.old).content) (behaviour (state self.new).content) name.now bytes.now result }
+        ensures saved { Saves (behaviour (state self.old).content) (behaviour (state self.new).content)
+            name.now bytes.now result }
         ensures memory { IsErrOf result OutFault.Memory → (state self.new).content ≡ (state self.old).content }
         ensures only { OnlySaves (state self.old) (state self.new) (IsErrOf result OutFault.Failed) };
 }

@@ -10,8 +10,8 @@ use std::alloc::Global;
 use std::marker::Model;
 use std::{fs, rt};
 
-/// The real files. Nothing is known of what they hold, and each load or save in which an open, a read, a write or a flush
-/// fails, or a write takes nothing of what is left, is counted once.
+/// The real files. Nothing is known of what they hold, and each load or save in which an open, a read, a write or a
+/// flush fails, or a write takes nothing of what is left, is counted once.
 #[derive(Drop)]
 pub struct HostFiles<R> {
     files: R,

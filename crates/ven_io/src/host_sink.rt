@@ -10,8 +10,8 @@ use crate::{OutFault, Sink};
 use std::io::{self, Print};
 use std::marker::Model;
 
-/// The standard output, written piece by piece with nothing kept back. Nothing is known of what it has taken, and each put
-/// in which a write or a flush fails, or a write takes nothing of what is left, is counted once.
+/// The standard output, written piece by piece with nothing kept back. Nothing is known of what it has taken, and each
+/// put in which a write or a flush fails, or a write takes nothing of what is left, is counted once.
 #[derive(Drop)]
 pub struct HostSink<R> {
     output: R,

@@ -42,7 +42,12 @@ impl Model for MemFiles {
 impl MemFiles {
     /// No files. The calls whose numbers are in `fails` fail, except a load that is Missing.
     pub fn new(alloc: Global, fails: Vec<u64>) -> MemFiles
-        ensures { result ≡ record { holds = empty; numbers = record { fails = fails.items; last = 0 }; failed_loads = 0; failed_saves = 0 } }
+        ensures { result ≡ record {
+          holds = empty;
+          numbers = record { fails = fails.items; last = 0 };
+          failed_loads = 0;
+          failed_saves = 0;
+        } }
     {
         MemFiles {
             alloc,
@@ -98,8 +103,10 @@ impl Files for MemFiles {
         ensures loaded { Loads (behaviour_of (files_state self.old).content) name.now most result }
         ensures only { OnlyLoads (files_state self.old) (files_state self.new) (IsErrOf result LoadFault.Failed) }
         ensures missing { IsErrOf result LoadFault.Missing ↔ (get self.old.holds name.now ≡ None) }
-        ensures fails { IsErrOf result LoadFault.Failed ↔ (IsSome (get self.old.holds name.now) × FailsNext self.old.numbers) }
-        ensures call { CountsCall self.old.numbers self.new.numbers self.old.failed_loads self.new.failed_loads (IsErrOf result LoadFault.Failed) }
+        ensures fails { IsErrOf result LoadFault.Failed
+            ↔ (IsSome (get self.old.holds name.now) × FailsNext self.old.numbers) }
+        ensures call { CountsCall self.old.numbers self.new.numbers self.old.failed_loads self.new.failed_loads
+            (IsErrOf result LoadFault.Failed) }
     {
         self.calls = self.calls.saturating_add(1);
         let Some(bytes) = self.get(name) else {
@@ -114,14 +121,17 @@ impl Files for MemFiles {
 
     /// Failed only where this call's number is one of those that fail, and then that file is empty.
     fn save(&mut self, name: &str, bytes: &[u8]) -> Result<(), OutFault>
-        ensures saved { Saves (behaviour_of (files_state self.old).content) (behaviour_of (files_state self.new).content) name.now bytes.now result }
-        ensures memory { IsErrOf result OutFault.Memory → (files_state self.new).content ≡ (files_state self.old).content }
+        ensures saved { Saves (behaviour_of (files_state self.old).content) (behaviour_of (files_state self.new).content)
+            name.now bytes.now result }
+        ensures memory { IsErrOf result OutFault.Memory
+            → (files_state self.new).content ≡ (files_state self.old).content }
         ensures only { OnlySaves (files_state self.old) (files_state self.new) (IsErrOf result OutFault.Failed) }
         ensures set { OnOk result (self.new.holds ≡ insert self.old.holds name.now bytes.now) }
         ensures emptied { IsErrOf result OutFault.Failed → self.new.holds ≡ insert self.old.holds name.now [] }
         ensures fails { IsErrOf result OutFault.Failed → FailsNext self.old.numbers }
         ensures passes { OnOk result (¬ FailsNext self.old.numbers) }
-        ensures call { CountsCall self.old.numbers self.new.numbers self.old.failed_saves self.new.failed_saves (IsErrOf result OutFault.Failed) }
+        ensures call { CountsCall self.old.numbers self.new.numbers self.old.failed_saves self.new.failed_saves
+            (IsErrOf result OutFault.Failed) }
     {
         self.calls = self.calls.saturating_add(1);
         let fails = self.fails.contains(&self.calls);

@@ -60,11 +60,13 @@ impl Sink for MemSink {
     fn put(&mut self, bytes: &[u8]) -> Result<(), OutFault>
         ensures put { Puts (sink_state self.old) (sink_state self.new) bytes.now result }
         ensures whole { OnOk result (self.new.bytes ≡ self.old.bytes ++ bytes.now) }
-        ensures half { IsErrOf result OutFault.Failed → self.new.bytes ≡ self.old.bytes ++ take (length bytes.now / 2) bytes.now }
+        ensures half { IsErrOf result OutFault.Failed
+            → self.new.bytes ≡ self.old.bytes ++ take (length bytes.now / 2) bytes.now }
         ensures memory { IsErrOf result OutFault.Memory → self.new.bytes ≡ self.old.bytes }
         ensures fails { IsErrOf result OutFault.Failed → FailsNext self.old.numbers }
         ensures passes { OnOk result (¬ FailsNext self.old.numbers) }
-        ensures call { CountsCall self.old.numbers self.new.numbers self.old.failed_puts self.new.failed_puts (IsErrOf result OutFault.Failed) }
+        ensures call { CountsCall self.old.numbers self.new.numbers self.old.failed_puts self.new.failed_puts
+            (IsErrOf result OutFault.Failed) }
     {
         self.puts = self.puts.saturating_add(1);
         let fails = self.fails.contains(&self.puts);

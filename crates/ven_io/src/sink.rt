@@ -25,5 +25,6 @@ pub trait Sink {
     /// bytes was taken. After Memory nothing of them was taken.
     fn put(&mut self, bytes: &[u8]) -> Result<(), OutFault>
         ensures put { Puts (state self.old) (state self.new) bytes.now result }
-        ensures counted { CountsFaults (state self.old).failed_puts (state self.new).failed_puts (IsErrOf result OutFault.Failed) };
+        ensures counted { CountsFaults (state self.old).failed_puts (state self.new).failed_puts
+            (IsErrOf result OutFault.Failed) };
 }

@@ -1,5 +1,5 @@
-//! The program `venice`: the words behind its name go to the top call, with the real files and the standard output, and it
-//! ends with the status that comes back.
+//! The program `venice`: the words behind its name go to the top call, with the real files and the standard output,
+//! and it ends with the status that comes back.
 #![tactic(auto)]
 
 ghost use Rattle.std.specs.Prelude.{◌≡◌, ◌⊎◌, drop, IfOk, OnErr};
@@ -34,7 +34,8 @@ fn status_of<F: Files, S: Sink>(
     // Where the system can't give the words, the status is 15, and nothing is done.
     ensures nothing { OnErr args ((exit_status result ≡ 15) × (files.new ≡ files.old) × (out.new ≡ out.old)) }
 
-    // Else it is the promise for all words but the first; or memory ran out while they were gathered, and nothing was done.
+    // Else the top call's promise holds for all words but the first; or memory ran out while they were gathered, and
+    // nothing was done.
     ensures promise { IfOk args (λ given.
         ((exit_status result ≡ 15) × (files.new ≡ files.old) × (out.new ≡ out.old))
         ⊎ Promise F.behaviour (moment (F.state files.old) (S.state out.old)) (moment (F.state files.new) (S.state out.new))

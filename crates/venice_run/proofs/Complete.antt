@@ -59,16 +59,16 @@ uncounted before after status lines result quiet (FailsAt front line rest split 
 uncounted before after status lines result quiet (LacksMemoryAt front line rest split taken kept is) = kept
 
 module _ {Content : Type 0} (behaviour : Content → Behaviour) (before after : Moment Content) (words : List (List ℕ)) (status : ℕ) where
-  no_save : NothingFails behaviour before → (save : Option Save) → SaveFailed behaviour before.files.content after.files.content save → ⊥
+  no_save : NothingFails behaviour before after → (save : Option Save) → SaveFailed behaviour before.files.content after.files.content save → ⊥
   no_save quiet None failed = failed
   no_save quiet (Some save) failed = quiet.save save.name failed.0
 
-  no_load : NothingFails behaviour before → answer_to (behaviour before.files.content) words (Err (Failed File)) → ⊥
+  no_load : NothingFails behaviour before after → answer_to (behaviour before.files.content) words (Err (Failed File)) → ⊥
   no_load quiet comes =
       let may = (answer_lawful (behaviour before.files.content) words).fails comes in quiet.load may.name may.fails
 
   -- an answer, or memory ran out
-  done : NothingFails behaviour before → (answer : Answer) → answer_to (behaviour before.files.content) words (Ok answer)
+  done : NothingFails behaviour before after → (answer : Answer) → answer_to (behaviour before.files.content) words (Ok answer)
       → SaveMade behaviour before.files.content after.files.content answer.save
       → Says before.sink after.sink (answer_status answer) (text_lines answer.text) status → IsComplete behaviour before after words status
   done quiet answer comes saved says =
@@ -78,14 +78,14 @@ module _ {Content : Type 0} (behaviour : Content → Behaviour) (before after : 
       ]
 
   -- memory's line, or not even that
-  lacks : NothingFails behaviour before → (said : Ending) → said ≡ Failed Memory → Says before.sink after.sink (status_of said) (line_of said ∷ []) status → status ≡ memory_status
+  lacks : NothingFails behaviour before after → (said : Ending) → said ≡ Failed Memory → Says before.sink after.sink (status_of said) (line_of said ∷ []) status → status ≡ memory_status
   lacks quiet said is says =
       elim (whole before.sink after.sink (status_of said) (line_of said ∷ []) status quiet.put says) [
         | inl w ↦ w.0 ∙ ap status_of is
         | inr e ↦ e
       ]
 
-  stopped : NothingFails behaviour before → (ending : Ending) → answer_to (behaviour before.files.content) words (Err ending) → after.files.content ≡ before.files.content
+  stopped : NothingFails behaviour before after → (ending : Ending) → answer_to (behaviour before.files.content) words (Err ending) → after.files.content ≡ before.files.content
       → (said : Ending) → (said ≡ ending) ⊎ (said ≡ Failed Memory) → Says before.sink after.sink (status_of said) (line_of said ∷ []) status → IsComplete behaviour before after words status
   stopped quiet ending comes kept said (inr is) says = inr (inr (lacks quiet said is says))
   stopped quiet (Failed File) comes kept said (inl is) says = absurd (no_load quiet comes)
@@ -93,16 +93,16 @@ module _ {Content : Type 0} (behaviour : Content → Behaviour) (before after : 
   stopped quiet (Refused refusal) comes kept said (inl is) says =
       elim (whole before.sink after.sink (status_of said) (line_of said ∷ []) status quiet.put says) [
         | inl w ↦ inr (inl (record {
-            refusal = refusal;
-            comes = comes;
-            kept = kept;
-            taken = subst (λ (e : Ending). Takes before.sink after.sink (line_of e ∷ [])) is w.1;
-            status_is = w.0 ∙ ap status_of is;
-          }))
+          refusal = refusal;
+          comes = comes;
+          kept = kept;
+          taken = subst (λ (e : Ending). Takes before.sink after.sink (line_of e ∷ [])) is w.1;
+          status_is = w.0 ∙ ap status_of is;
+        }))
         | inr e ↦ inr (inr e)
       ]
 
-  by_outcome : NothingFails behaviour before → (outcome : Outcome)
+  by_outcome : NothingFails behaviour before after → (outcome : Outcome)
       → Comes behaviour before.files.content after.files.content (answer_to (behaviour before.files.content) words) outcome
       → SaysOutcome before.sink after.sink outcome status → IsComplete behaviour before after words status
   by_outcome quiet outcome (Does answer comes saved is) says =
@@ -119,10 +119,10 @@ module _ {Content : Type 0} (behaviour : Content → Behaviour) (before after : 
       let s : SaysEnding before.sink after.sink ending status = subst (λ (o : Outcome). SaysOutcome before.sink after.sink o status) is says in
       stopped quiet ending comes kept s.said s.is s.says
 
-  pub complete : Promise behaviour before after words status → NothingFails behaviour before → IsComplete behaviour before after words status
+  pub complete : Promise behaviour before after words status → NothingFails behaviour before after → IsComplete behaviour before after words status
   complete promise quiet = by_outcome quiet promise.outcome promise.comes promise.says
 
-  no_file_outcome : NothingFails behaviour before → (outcome : Outcome)
+  no_file_outcome : NothingFails behaviour before after → (outcome : Outcome)
       → Comes behaviour before.files.content after.files.content (answer_to (behaviour before.files.content) words) outcome → outcome ≡ Stopped (Failed File) → ⊥
   no_file_outcome quiet outcome (Does answer comes saved is) e = cc
   no_file_outcome quiet outcome (FailsToSave answer comes failed is) e = cc
@@ -131,7 +131,7 @@ module _ {Content : Type 0} (behaviour : Content → Behaviour) (before after : 
       let file : ending ≡ Failed File = cc in
       no_load quiet (subst (λ (x : Ending). answer_to (behaviour before.files.content) words (Err x)) file comes)
 
-  no_save_outcome : NothingFails behaviour before → (outcome : Outcome)
+  no_save_outcome : NothingFails behaviour before after → (outcome : Outcome)
       → Comes behaviour before.files.content after.files.content (answer_to (behaviour before.files.content) words) outcome → outcome ≡ NotSaved → ⊥
   no_save_outcome quiet outcome (Does answer comes saved is) e = cc
   no_save_outcome quiet outcome (FailsToSave answer comes failed is) e = no_save quiet answer.save failed
@@ -143,7 +143,7 @@ module _ {Content : Type 0} (behaviour : Content → Behaviour) (before after : 
   outcome_puts quiet (Stopped ending) says = uncounted before.sink after.sink (status_of says.said) (line_of says.said ∷ []) status quiet says.says
   outcome_puts quiet NotSaved says = uncounted before.sink after.sink save_status (save_line ∷ []) status quiet says
 
-  pub uncounted_all : Promise behaviour before after words status → NothingFails behaviour before → NoneCounted before after
+  pub uncounted_all : Promise behaviour before after words status → NothingFails behaviour before after → NoneCounted behaviour before after
   uncounted_all promise quiet = record {
     loads = promise.loads.kept (no_file_outcome quiet promise.outcome promise.comes);
     saves = promise.saves.kept (no_save_outcome quiet promise.outcome promise.comes);

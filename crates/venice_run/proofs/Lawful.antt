@@ -158,7 +158,7 @@ same_operands a v w are are_w e =
     let rest_w : List Lexeme = array_lexemes a.second a.columns w.second in
     let values : map Number v.first ++ rest ≡ map Number w.first ++ rest_w = ap (drop 7) e in
     let firsts : v.first ≡ w.first = same_numbers v.first w.first
-      (sym (front_is v.first rest a.columns are.count) ∙ ap (take a.columns) values ∙ front_is w.first rest_w a.columns are_w.count) in
+    (sym (front_is v.first rest a.columns are.count) ∙ ap (take a.columns) values ∙ front_is w.first rest_w a.columns are_w.count) in
     let rests : rest ≡ rest_w = sym (back_is v.first rest a.columns are.count) ∙ ap (drop a.columns) values ∙ back_is w.first rest_w a.columns are_w.count in
     let seconds : v.second ≡ w.second = same_numbers v.second w.second (ap (drop 7) rests) in
     λ i. record { first = firsts i; second = seconds i }

@@ -1,4 +1,5 @@
--- The program that adds two arrays, and the file that gives their values: the lexemes of both texts, and what they denote.
+-- The program that adds two arrays, and the file that gives their values: the lexemes of both texts, and what they
+-- denote.
 use Rattle.std.specs.Prelude.{◌≡◌, ◌≢◌, ℕ, ◌*◌, ◌<◌, ◌≤◌, List, [], ◌∷◌, ◌++◌, length, map, codes, All}
 use Rattle.ven_base.specs.Name.{IsName}
 use Rattle.ven_io.specs.Lexemes.{Lexeme, Word, Number, Sign, IsLexed}
@@ -22,7 +23,8 @@ input_lexemes name columns = Word (codes "input") ∷ Word name ∷ type_lexemes
 -- `output Z = X + Y;`
 abbrev pub output_lexemes : List ℕ → List ℕ → List ℕ → List Lexeme
 output_lexemes sum first second =
-    Word (codes "output") ∷ Word sum ∷ Sign (codes "=") ∷ Word first ∷ Sign (codes "+") ∷ Word second ∷ Sign (codes ";") ∷ []
+    Word (codes "output") ∷ Word sum ∷ Sign (codes "=")
+    ∷ Word first ∷ Sign (codes "+") ∷ Word second ∷ Sign (codes ";") ∷ []
 
 -- the three statements in order
 abbrev pub program_lexemes : Addition → List Lexeme

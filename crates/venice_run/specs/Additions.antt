@@ -5,7 +5,8 @@ use Rattle.venice_run.specs.Addition as form
 
 -- the addition as plain data
 abbrev pub denoted : Addition → form.Addition
-denoted addition = record { first = addition.first; second = addition.second; sum = addition.sum; columns = addition.columns }
+denoted addition =
+    record { first = addition.first; second = addition.second; sum = addition.sum; columns = addition.columns }
 
 -- the values as plain data
 abbrev pub denoted_operands : Operands → form.Operands

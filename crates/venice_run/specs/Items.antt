@@ -24,10 +24,12 @@ HasSmallNumbers (Sign bytes ∷ rest) = HasSmallNumbers rest
 
 -- the lexemes from the token on are this one and those from the token's end, whichever they are
 pub record Begins (text : List ℕ) (token : Token) (lexeme : Lexeme) : Type 0 where
-  pub split : (lexemes : List Lexeme) → LexedAs token.kind text token lexemes → (rest : List Lexeme) × (lexemes ≡ lexeme ∷ rest) × IsLexedFrom text token.end rest
+  pub split : (lexemes : List Lexeme) → LexedAs token.kind text token lexemes
+      → (rest : List Lexeme) × (lexemes ≡ lexeme ∷ rest) × IsLexedFrom text token.end rest
   pub join : (rest : List Lexeme) → IsLexedFrom text token.end rest → LexedAs token.kind text token (lexeme ∷ rest)
 
 -- the text's lexemes are these and those from the place on, whichever they are
 pub record AreBefore (text : List ℕ) (front : List Lexeme) (place : ℕ) : Type 0 where
-  pub split : (lexemes : List Lexeme) → IsLexed text lexemes → (rest : List Lexeme) × (lexemes ≡ front ++ rest) × IsLexedFrom text place rest
+  pub split : (lexemes : List Lexeme) → IsLexed text lexemes
+      → (rest : List Lexeme) × (lexemes ≡ front ++ rest) × IsLexedFrom text place rest
   pub join : (rest : List Lexeme) → IsLexedFrom text place rest → IsLexed text (front ++ rest)

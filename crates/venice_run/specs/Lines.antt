@@ -10,4 +10,5 @@ before_lines byte (line ∷ lines) = (byte ∷ line) ∷ lines
 -- the text cut behind each line end
 unfoldable pub text_lines : List ℕ → List (List ℕ)
 text_lines [] = []
-text_lines (byte ∷ rest) = if byte == line_end then (byte ∷ []) ∷ text_lines rest else before_lines byte (text_lines rest)
+text_lines (byte ∷ rest) =
+    if byte == line_end then (byte ∷ []) ∷ text_lines rest else before_lines byte (text_lines rest)

@@ -15,7 +15,8 @@ outcome_of (outcome.Done answer) = Done (answer_of answer)
 outcome_of (outcome.Stopped ending) = Stopped ending
 outcome_of outcome.NotSaved = NotSaved
 
-abbrev pub SaveEnds : {Content : Type 0} → (Content → Behaviour) → Content → Content → Option asked.Save → Result (Unit {0}) OutFault → Type 0
+abbrev pub SaveEnds : {Content : Type 0} → (Content → Behaviour) → Content → Content → Option asked.Save
+    → Result (Unit {0}) OutFault → Type 0
 SaveEnds behaviour before after save (Ok _) = SaveMade behaviour before after (option_map save_of save)
 SaveEnds behaviour before after save (Err out.Failed) = SaveFailed behaviour before after (option_map save_of save)
 SaveEnds behaviour before after save (Err out.Memory) = after ≡ before

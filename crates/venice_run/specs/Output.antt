@@ -19,7 +19,8 @@ type_word I32 = codes "i32"
 -- `NAME TYPE[R,C]` and a line end
 abbrev pub heading_of : List ℕ → Elem → ℕ → ℕ → List ℕ
 heading_of name elem rows columns =
-    name ++ codes " " ++ type_word elem ++ codes "[" ++ decimal rows ++ codes "," ++ decimal columns ++ codes "]" ++ line_end ∷ []
+    name ++ codes " " ++ type_word elem
+    ++ codes "[" ++ decimal rows ++ codes "," ++ decimal columns ++ codes "]" ++ line_end ∷ []
 
 -- numbers in decimal, with one space between
 abbrev pub values_text : List ℤ → List ℕ

@@ -35,25 +35,29 @@ SaveMade behaviour before after (Some save) = Saves (behaviour before) (behaviou
 -- the save that is asked for failed
 abbrev pub SaveFailed : {Content : Type 0} → (Content → Behaviour) → Content → Content → Option Save → Type 0
 SaveFailed behaviour before after None = ⊥
-SaveFailed behaviour before after (Some save) = Saves (behaviour before) (behaviour after) save.name save.bytes (Err out.Failed)
+SaveFailed behaviour before after (Some save) =
+    Saves (behaviour before) (behaviour after) save.name save.bytes (Err out.Failed)
 
 -- What the stages come to, and what the files hold then. The save comes after all stages, and before anything is put.
-pub data Comes {Content : Type 0} (behaviour : Content → Behaviour) (before after : Content) (stages : Result Answer Ending → Type 0) (outcome : Outcome) : Type 0 where
+pub data Comes {Content : Type 0} (behaviour : Content → Behaviour) (before after : Content)
+    (stages : Result Answer Ending → Type 0) (outcome : Outcome) : Type 0 where
   Does : (answer : Answer) → stages (Ok answer) → SaveMade behaviour before after answer.save → outcome ≡ Done answer
       → Comes behaviour before after stages outcome
-  FailsToSave : (answer : Answer) → stages (Ok answer) → SaveFailed behaviour before after answer.save → outcome ≡ NotSaved
-      → Comes behaviour before after stages outcome
+  FailsToSave : (answer : Answer) → stages (Ok answer) → SaveFailed behaviour before after answer.save
+      → outcome ≡ NotSaved → Comes behaviour before after stages outcome
   LacksMemory : (answer : Answer) → stages (Ok answer) → after ≡ before → outcome ≡ Stopped (Failed Memory)
       → Comes behaviour before after stages outcome
   Stops : (ending : Ending) → stages (Err ending) → after ≡ before → outcome ≡ Stopped ending
       → Comes behaviour before after stages outcome
 
--- How much of the lines the sink takes, and the status then. Each line is one piece, and behind a put that wasn't done there is none.
+-- How much of the lines the sink takes, and the status then. Each line is one piece, and behind a put that wasn't done
+-- there is none.
 pub data Says (before after : SinkState) (status : ℕ) (lines : List (List ℕ)) (result : ℕ) : Type 0 where
-  Whole : Takes before after lines → after.failed_puts ≡ before.failed_puts → result ≡ status → Says before after status lines result
-  FailsAt : (front : List (List ℕ)) (line : List ℕ) (rest : List (List ℕ)) → lines ≡ front ++ line ∷ rest
-      → TakesPart before after front line → before.may_fail → after.failed_puts ≡ one_more before.failed_puts → result ≡ put_status
+  Whole : Takes before after lines → after.failed_puts ≡ before.failed_puts → result ≡ status
       → Says before after status lines result
+  FailsAt : (front : List (List ℕ)) (line : List ℕ) (rest : List (List ℕ)) → lines ≡ front ++ line ∷ rest
+      → TakesPart before after front line → before.may_fail → after.failed_puts ≡ one_more before.failed_puts
+      → result ≡ put_status → Says before after status lines result
   LacksMemoryAt : (front : List (List ℕ)) (line : List ℕ) (rest : List (List ℕ)) → lines ≡ front ++ line ∷ rest
       → Takes before after front → after.failed_puts ≡ before.failed_puts → result ≡ memory_status
       → Says before after status lines result
@@ -71,10 +75,12 @@ SaysOutcome before after (Stopped ending) result = SaysEnding before after endin
 SaysOutcome before after NotSaved result = Says before after save_status (save_line ∷ []) result
 
 -- What a call of the program promises.
-pub record Promise {Content : Type 0} (behaviour : Content → Behaviour) (before after : Moment Content) (words : List (List ℕ)) (result : ℕ) : Type 0 where
+pub record Promise {Content : Type 0} (behaviour : Content → Behaviour) (before after : Moment Content)
+    (words : List (List ℕ)) (result : ℕ) : Type 0 where
   pub outcome : Outcome
   -- it is what the words come to by the files' content, with the save made
-  pub comes : Comes behaviour before.files.content after.files.content (answer_to (behaviour before.files.content) words) outcome
+  pub comes : Comes behaviour before.files.content after.files.content
+      (answer_to (behaviour before.files.content) words) outcome
   -- one load failed exactly where `error: file` is meant, and one save where `error: save` is
   pub loads : CountsFaults before.files.failed_loads after.files.failed_loads (outcome ≡ Stopped (Failed File))
   pub saves : CountsFaults before.files.failed_saves after.files.failed_saves (outcome ≡ NotSaved)

@@ -16,7 +16,8 @@ use Rattle.venice_run.specs.Stage.{Stage, ◌>>=◌, ◌>>◌, step, refuses}
 -- the addition whose program the text is, or that it is of no addition's form
 abbrev pub addition_in : List ℕ → Stage Addition
 addition_in text (Ok addition) = DenotesAddition text addition
-addition_in text (Err (Refused refusal)) = ((addition : Addition) → ¬ DenotesAddition text addition) × (refusal ≡ Form Program)
+addition_in text (Err (Refused refusal)) =
+    ((addition : Addition) → ¬ DenotesAddition text addition) × (refusal ≡ Form Program)
 addition_in text (Err (Failed fault)) = fault ≡ Memory
 
 -- the values that the text gives to the addition's inputs, or that it is of no form for them
@@ -50,7 +51,8 @@ operands_of files name addition = do
 -- the scratchpad holds the addition's need
 abbrev pub HasRoom : Addition → ℕ → Result (Unit {0}) Shortage → Type 0
 HasRoom addition spad (Ok _) = need_of addition ≤ spad
-HasRoom addition spad (Err shortage) = (spad < need_of addition) × (shortage ≡ record { need = need_of addition; have = spad })
+HasRoom addition spad (Err shortage) =
+    (spad < need_of addition) × (shortage ≡ record { need = need_of addition; have = spad })
 
 abbrev pub has_room : Addition → ℕ → Stage (Unit {0})
 has_room addition spad = step (λ shortage. Refused (Scratchpad shortage)) (HasRoom addition spad)

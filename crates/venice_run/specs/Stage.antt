@@ -10,7 +10,8 @@ abbrev pub Stage : Type 0 → Type 1
 Stage A = Result A Ending → Type 0
 
 -- the first stage ends the command, or it passes with a value and the rest goes on from there
-pub data Then {A B : Type 0} (first : Result A Ending → Type 0) (next : A → Result B Ending → Type 0) (result : Result B Ending) : Type 0 where
+pub data Then {A B : Type 0} (first : Result A Ending → Type 0) (next : A → Result B Ending → Type 0)
+    (result : Result B Ending) : Type 0 where
   Ends : (ending : Ending) → first (Err ending) → result ≡ Err ending → Then first next result
   Goes : (value : A) → first (Ok value) → next value result → Then first next result
 

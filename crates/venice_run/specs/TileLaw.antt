@@ -18,9 +18,11 @@ pub record IsLaidOut (columns : ℕ) (first second : List ℕ) (store : Store) :
 pub record LeavesSums (columns : ℕ) (first second : List ℕ) (before after : Store) : Type 0 where
   pub sums : map pos (part after.memory (sum_place columns) columns) ≡ sums_of U8 first second
   pub same_length : length after.memory ≡ length before.memory
-  pub kept : (p : ℕ) → (p < sum_place columns) ⊎ (sum_place columns + columns ≤ p) → slice_index after.memory p ≡ slice_index before.memory p
+  pub kept : (p : ℕ) → (p < sum_place columns) ⊎ (sum_place columns + columns ≤ p)
+      → slice_index after.memory p ≡ slice_index before.memory p
 
--- from every store that holds two arrays, the tile's list leads to a store, and every one that it leads to has their sums
+-- from every store that holds two arrays, the tile's list leads to a store, and every one that it leads to has their
+-- sums
 abbrev pub TileAdds : Type 0
 TileAdds =
     (columns : ℕ) (first second : List ℕ) (before : Store) → IsLaidOut columns first second before

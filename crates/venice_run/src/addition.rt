@@ -104,7 +104,8 @@ impl Addition {
 }
 
 fn word_at(items: &[Item], k: usize) -> Option<Name>
-    ensures { MatchOption result ((name : List ℕ) → IsName name → slice_get (lexemes_of items.now) k ≡ Some (Word name) → ⊥)
+    ensures { MatchOption result
+        ((name : List ℕ) → IsName name → slice_get (lexemes_of items.now) k ≡ Some (Word name) → ⊥)
         (λ name. slice_get (lexemes_of items.now) k ≡ Some (Word name)) }
 {
     match items.get(k) {

@@ -9,8 +9,8 @@ pub(crate) struct Save<'a> {
     pub bytes: Vec<u8>,
 }
 
-/// What a command saves, where it saves, and prints then. The text is whole; where it ends in a refusal's line, `stop` is
-/// that refusal.
+/// What a command saves, where it saves, and prints then. The text is whole; where it ends in a refusal's line, `stop`
+/// is that refusal.
 #[derive(Drop)]
 pub(crate) struct Answer<'a> {
     pub save: Option<Save<'a>>,

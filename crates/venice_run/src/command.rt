@@ -5,8 +5,8 @@ ghost use Rattle.venice_run.specs.Words.{texts_of, SpellsCommand};
 
 use crate::request::request_of;
 
-/// What the words of the command line ask for ("The command line" in docs/FORMATS.md). File names are the words at their
-/// places.
+/// What the words of the command line ask for ("The command line" in docs/FORMATS.md). File names are the words at
+/// their places.
 #[derive(Clone, Copy, Debug, PartialEq, Eq)]
 pub enum Command {
     /// `run PROGRAM INPUTS IMAGE LANES SPAD`: 1 to 4 lanes, a scratchpad of 1 to 1,048,576 bytes.
@@ -16,7 +16,8 @@ pub enum Command {
 /// The command that the words spell, or `None` exactly where they spell none. It takes no memory.
 /// Numbers are plain decimals: digits, no sign, no leading zero but in `0` itself.
 pub fn read_words(words: &[String]) -> Option<Command>
-    ensures { MatchOption result ((command : Command) → ¬ SpellsCommand (texts_of words.now) command) (SpellsCommand (texts_of words.now)) }
+    ensures { MatchOption result ((command : Command) → ¬ SpellsCommand (texts_of words.now) command)
+        (SpellsCommand (texts_of words.now)) }
 {
     match request_of(words) {
         Some(request) => Some(request.command()),

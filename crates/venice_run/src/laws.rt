@@ -1,8 +1,7 @@
 //! What the definitions of the top call settle, whatever the code does.
 
-ghost use Rattle.std.specs.Prelude.{◌≢◌};
-ghost use Rattle.venice_run.specs.Laws.{HasOneAnswer, LinesAreTheText, NothingFails, NoneCounted, IsComplete};
-ghost use Rattle.venice_run.specs.Promise.{Promise, moment};
+ghost use Rattle.venice_run.specs.Laws.{HasOneAnswer, LinesAreTheText, CompletesQuietly, NeverEndsWith15};
+ghost use Rattle.venice_run.specs.Promise.{moment};
 ghost use Rattle.venice_run.specs.Words.{texts_of};
 
 use ven_io::{Files, Sink};
@@ -17,9 +16,9 @@ pub fn lines_are_the_text()
     ensures { LinesAreTheText }
 {}
 
-/// What the promise of a call says between two moments, `files` and `out` before and `files_now` and `out_now` after it:
-/// where nothing may fail, no fault is counted, and the words are answered or refused in full, or memory ran out; and
-/// status 15 is never the top call's.
+/// What the promise of a call says between two moments, `files` and `out` before it, and `files_now` and `out_now`
+/// after it: where nothing may fail, no fault is counted, and the words are answered or refused in full, or memory ran
+/// out; and status 15 is never the top call's.
 pub fn promise_is_complete<F: Files, S: Sink>(
     words: &[String],
     files: &F,
@@ -28,12 +27,8 @@ pub fn promise_is_complete<F: Files, S: Sink>(
     out_now: &S,
     status: u8,
 )
-    ensures complete { Promise F.behaviour (moment (F.state files.now) (S.state out.now)) (moment (F.state files_now.now) (S.state out_now.now)) (texts_of words.now) status
-        → NothingFails F.behaviour (moment (F.state files.now) (S.state out.now))
-        → IsComplete F.behaviour (moment (F.state files.now) (S.state out.now)) (moment (F.state files_now.now) (S.state out_now.now)) (texts_of words.now) status }
-    ensures quiet { Promise F.behaviour (moment (F.state files.now) (S.state out.now)) (moment (F.state files_now.now) (S.state out_now.now)) (texts_of words.now) status
-        → NothingFails F.behaviour (moment (F.state files.now) (S.state out.now))
-        → NoneCounted (moment (F.state files.now) (S.state out.now)) (moment (F.state files_now.now) (S.state out_now.now)) }
-    ensures never { Promise F.behaviour (moment (F.state files.now) (S.state out.now)) (moment (F.state files_now.now) (S.state out_now.now)) (texts_of words.now) status
-        → status ≢ 15 }
+    ensures complete { CompletesQuietly F.behaviour (moment (F.state files.now) (S.state out.now))
+        (moment (F.state files_now.now) (S.state out_now.now)) (texts_of words.now) status }
+    ensures never { NeverEndsWith15 F.behaviour (moment (F.state files.now) (S.state out.now))
+        (moment (F.state files_now.now) (S.state out_now.now)) (texts_of words.now) status }
 {}

@@ -100,7 +100,8 @@ fn values(alloc: Global, items: &[Item]) -> Result<Option<Vec<u8>>, AllocError>
 }
 
 fn value_of(item: &Item) -> Option<u8>
-    ensures { MatchOption result ((n : ℕ) → n < 256 → lexeme_of item.now ≡ Number n → ⊥) (λ n. (n < 256) × (lexeme_of item.now ≡ Number n)) }
+    ensures { MatchOption result ((n : ℕ) → n < 256 → lexeme_of item.now ≡ Number n → ⊥)
+        (λ n. (n < 256) × (lexeme_of item.now ≡ Number n)) }
 {
     match item {
         Item::Number(n) if *n < 256 => Some(*n as u8),

@@ -37,7 +37,8 @@ pub(crate) fn load_text<F: Files>(
     name: &str,
     limit: u32,
 ) -> Result<Option<Vec<u8>>, Ending>
-    ensures read { shown (F.behaviour (F.state files.old).content) name.now limit (answered (option_map (λ text. text.items)) result) }
+    ensures read { shown (F.behaviour (F.state files.old).content) name.now limit
+        (answered (option_map (λ text. text.items)) result) }
     ensures only { OnlyLoads (F.state files.old) (F.state files.new) (IsErrOf result (Ending.Failed Fault.File)) }
 {
     match files.load(alloc, name, u64::from(limit)) {
@@ -56,7 +57,8 @@ pub(crate) fn load_within<F: Files>(
     name: &str,
     kind: Kind,
 ) -> Result<Vec<u8>, Ending>
-    ensures read { loads (F.behaviour (F.state files.old).content) name.now kind (answered (λ text. text.items) result) }
+    ensures read { loads (F.behaviour (F.state files.old).content) name.now kind
+        (answered (λ text. text.items) result) }
     ensures only { OnlyLoads (F.state files.old) (F.state files.new) (IsErrOf result (Ending.Failed Fault.File)) }
 {
     match load_text(alloc, files, name, kind.limit())? {

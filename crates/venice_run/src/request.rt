@@ -37,13 +37,15 @@ impl Request<'_> {
 
 /// The request that the words spell, or `None` exactly where they spell none.
 pub(crate) fn request_of(words: &[String]) -> Option<Request<'_>>
-    ensures { MatchOption result ((request : Request) → ¬ Spells (texts_of words.now) request) (Spells (texts_of words.now)) }
+    ensures { MatchOption result ((request : Request) → ¬ Spells (texts_of words.now) request)
+        (Spells (texts_of words.now)) }
 {
     run_request(words)
 }
 
 fn run_request(words: &[String]) -> Option<Request<'_>>
-    ensures { MatchOption result ((request : Request) → IsRun request → ¬ Spells (texts_of words.now) request) (Spells (texts_of words.now)) }
+    ensures { MatchOption result ((request : Request) → IsRun request → ¬ Spells (texts_of words.now) request)
+        (Spells (texts_of words.now)) }
 {
     let [word, program, inputs, image, lanes, spad] = words else {
         return None;
@@ -64,7 +66,8 @@ fn run_request(words: &[String]) -> Option<Request<'_>>
 
 /// The number from 1 to `most` that the text is the plain decimal of.
 fn number_up_to(most: u32, text: &str) -> Option<u32>
-    ensures { MatchOption result ((n : ℕ) → IsUpTo most n → text.now ≡ decimal n → ⊥) (λ n. IsUpTo most n × (text.now ≡ decimal n)) }
+    ensures { MatchOption result ((n : ℕ) → IsUpTo most n → text.now ≡ decimal n → ⊥)
+        (λ n. IsUpTo most n × (text.now ≡ decimal n)) }
 {
     match text.parse::<u32>() {
         Ok(number) if number != 0 && number <= most && is_plain(number, text) => Some(number),

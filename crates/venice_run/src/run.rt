@@ -23,7 +23,8 @@ use std::alloc::{AllocError, Global};
 use ven_base::Elem;
 use ven_io::Files;
 
-/// It prints the sums of the inputs of the addition that PROGRAM is, or comes to its first refusal. Files are only read.
+/// It prints the sums of the inputs of the addition that PROGRAM is, or comes to its first refusal.
+/// Files are only read.
 pub(crate) fn run<'a, F: Files>(
     alloc: Global,
     files: &mut F,
@@ -31,7 +32,8 @@ pub(crate) fn run<'a, F: Files>(
     inputs: &str,
     spad: u32,
 ) -> Result<Answer<'a>, Ending>
-    ensures answer { run_lem (F.behaviour (F.state files.old).content) program.now inputs.now spad (answered answer_of result) }
+    ensures answer { run_lem (F.behaviour (F.state files.old).content) program.now inputs.now spad
+        (answered answer_of result) }
     ensures only { OnlyLoads (F.state files.old) (F.state files.new) (IsErrOf result (Ending.Failed Fault.File)) }
 {
     let addition = read_addition(alloc, files, program)?;
@@ -58,7 +60,8 @@ fn read_operands<F: Files>(
     addition: &Addition,
 ) -> Result<Operands, Ending>
     requires { IsAddition (denoted addition.now) }
-    ensures read { operands_of (F.behaviour (F.state files.old).content) name.now (denoted addition.now) (answered denoted_operands result) }
+    ensures read { operands_of (F.behaviour (F.state files.old).content) name.now (denoted addition.now)
+        (answered denoted_operands result) }
     ensures only { OnlyLoads (F.state files.old) (F.state files.new) (IsErrOf result (Ending.Failed Fault.File)) }
     ensures first { IfOk result (λ operands. AreValues addition.now.columns operands.first.items) }
     ensures second { IfOk result (λ operands. AreValues addition.now.columns operands.second.items) }

@@ -35,7 +35,8 @@ fn laid_out(alloc: Global, first: &[u8], second: &[u8]) -> Result<Vec<u8>, Alloc
     requires few { length first.now ≤ 2048 }
     requires one_length { length second.now ≡ length first.now }
     ensures first { IfOk result (λ memory. part memory.items first_place (length first.now) ≡ first.now) }
-    ensures second { IfOk result (λ memory. part memory.items (second_place (length first.now)) (length first.now) ≡ second.now) }
+    ensures second { IfOk result
+        (λ memory. part memory.items (second_place (length first.now)) (length first.now) ≡ second.now) }
     ensures room { IfOk result (λ memory. length memory.items ≡ sum_place (length first.now) + length first.now) }
 {
     let cols = first.len() as u32;

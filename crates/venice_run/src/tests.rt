@@ -1,6 +1,12 @@
 //! The top call over files and sinks in memory, and the texts that it prints.
 
-use crate::{Command, Ending, Fault, Kind, Refusal, Shortage, read_words, venice};
+use crate::answer::{Answer, Save};
+use crate::reading::load_within;
+use crate::top::{save_answer, say};
+use crate::{
+    Command, Ending, Fault, Kind, Refusal, Shortage, lines_are_the_text, one_answer,
+    promise_is_complete, read_words, venice,
+};
 use std::alloc::Global;
 use std::test::Fail;
 use ven_io::{Files, MemFiles, MemSink, OutFault, Sink};
@@ -244,7 +250,11 @@ impl Sink for OnePiece {
     ghost use Rattle.std.specs.Prelude.{◌≡◌};
     ghost use Rattle.std.specs.List.{concat};
 
-    ghost state = { λ s. record { has_taken = λ pieces. s.bytes.items ≡ concat pieces; may_fail = ⊥; failed_puts = 0 } };
+    ghost state = { λ s. record {
+      has_taken = λ pieces. s.bytes.items ≡ concat pieces;
+      may_fail = ⊥;
+      failed_puts = 0;
+    } };
 
     fn put(&mut self, bytes: &[u8]) -> Result<(), OutFault> {
         if self.is_full {
@@ -333,5 +343,79 @@ fn each_ending_has_its_status_and_line(rt: HostRuntime) -> Result<(), Fail> {
         assert_eq!(rt; ending.status(), status);
         assert_eq!(rt; ending.line(alloc)?.as_slice(), line.as_bytes());
     }
+    Ok(())
+}
+
+/// An answer that is saved, and then said: which call fails, the status, the save's file and what the sink has taken.
+static SAVES: [(u64, u8, Option<&str>, &str); 2] = [
+    (0, 0, Some("image"), "one\ntwo\n"),
+    (1, 14, Some(""), "error: save\n"),
+];
+
+#[test]
+fn an_answer_is_saved_and_then_said(rt: HostRuntime) -> Result<(), Fail> {
+    let alloc = rt.alloc();
+    for row in &SAVES {
+        let (fails, want, bytes, taken) = *row;
+        let mut files = files_with(alloc, PROGRAM, INPUTS, vec![in alloc; fails]?)?;
+        let mut out = MemSink::new(alloc, Vec::new(alloc));
+        let answer = Answer {
+            save: Some(Save {
+                name: "M",
+                bytes: b"image".to_vec(alloc)?,
+            }),
+            text: b"one\ntwo\n".to_vec(alloc)?,
+            stop: None,
+        };
+        let outcome = save_answer(&mut files, Ok(answer));
+        assert_eq!(rt; say(alloc, outcome, &mut out), want);
+        assert_eq!(rt; out.taken(), taken.as_bytes());
+        assert_eq!(rt; files.get("M"), bytes.map(|bytes| bytes.as_bytes()));
+        assert_eq!(rt; files.get("P"), Some(PROGRAM.as_bytes()));
+    }
+    Ok(())
+}
+
+#[test]
+fn a_text_before_a_stop_is_said_whole(rt: HostRuntime) -> Result<(), Fail> {
+    let alloc = rt.alloc();
+    let mut files = files_with(alloc, PROGRAM, INPUTS, Vec::new(alloc))?;
+    let mut out = MemSink::new(alloc, Vec::new(alloc));
+    let answer = Answer {
+        save: None,
+        text: b"one\nerror: file missing\n".to_vec(alloc)?,
+        stop: Some(Refusal::FileMissing),
+    };
+    let outcome = save_answer(&mut files, Ok(answer));
+    assert_eq!(rt; say(alloc, outcome, &mut out), 8);
+    assert_eq!(rt; out.taken(), b"one\nerror: file missing\n".as_slice());
+    Ok(())
+}
+
+#[test]
+fn a_text_is_loaded_up_to_its_limit(rt: HostRuntime) -> Result<(), Fail> {
+    let alloc = rt.alloc();
+    for (length, want) in [(65_536usize, true), (65_537, false)] {
+        let program = padded(alloc, PROGRAM, length)?;
+        let mut files = files_with(alloc, program.as_str(), INPUTS, Vec::new(alloc))?;
+        match load_within(alloc, &mut files, "P", Kind::Program) {
+            Ok(text) => assert_eq!(rt; (text.len(), want), (length, true)),
+            Err(ending) => {
+                assert_eq!(rt; ending, Ending::Refused(Refusal::TooLong(Kind::Program)));
+                assert_eq!(rt; want, false);
+            }
+        }
+    }
+    Ok(())
+}
+
+#[test]
+fn laws_are_called(rt: HostRuntime) -> Result<(), Fail> {
+    let alloc = rt.alloc();
+    let files = files_with(alloc, PROGRAM, INPUTS, Vec::new(alloc))?;
+    let out = MemSink::new(alloc, Vec::new(alloc));
+    one_answer::<MemFiles>();
+    lines_are_the_text();
+    promise_is_complete(&owned(alloc, &["run"])?, &files, &out, &files, &out, 2);
     Ok(())
 }

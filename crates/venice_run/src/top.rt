@@ -1,8 +1,7 @@
 //! The top call.
 
-ghost use Rattle.std.specs.Prelude.{◌≡◌, ◌≢◌, Err, IsErrOf};
-ghost use Rattle.ven_io.specs.Faults.{CountsFaults};
-ghost use Rattle.ven_io.specs.Files.{OnlyLoads};
+ghost use Rattle.std.specs.Prelude.{◌≡◌, ◌↔◌, IsErrOf};
+ghost use Rattle.ven_io.specs.Files.{OnlyLoads, OnlySaves};
 ghost use Rattle.venice_run.specs.Answer.{answer_of};
 ghost use Rattle.venice_run.specs.Commands.{answer_to as answer_to_lem, stages_of};
 ghost use Rattle.venice_run.specs.Outcomes.{outcome_of, SaveEnds};
@@ -39,11 +38,11 @@ pub(crate) enum Outcome<'a> {
 /// Does what the words of the command line ask, and answers the status that the program ends with.
 ///
 /// The answer's file is saved and its text goes to the sink, or the one line of the first refusal does. Status 8 with
-/// `error: file` comes only where a load failed, status 14 only where a save did, status 9 only where a put did, and status
-/// 10 where memory ran out. docs/FORMATS.md has the words, the output and the order of the refusals.
+/// `error: file` comes only where a load failed, status 14 only where a save did, status 9 only where a put did, and
+/// status 10 where memory ran out. docs/FORMATS.md has the words, the output and the order of the refusals.
 pub fn venice<F: Files, S: Sink>(alloc: Global, words: &[String], files: &mut F, out: &mut S) -> u8
-    ensures promise { Promise F.behaviour (moment (F.state files.old) (S.state out.old)) (moment (F.state files.new) (S.state out.new))
-        (texts_of words.now) result }
+    ensures promise { Promise F.behaviour (moment (F.state files.old) (S.state out.old))
+        (moment (F.state files.new) (S.state out.new)) (texts_of words.now) result }
 {
     let answer = answer_to(alloc, words, files);
     let outcome = save_answer(files, answer);
@@ -56,7 +55,8 @@ fn answer_to<'a, F: Files>(
     words: &'a [String],
     files: &mut F,
 ) -> Result<Answer<'a>, Ending>
-    ensures answer { answer_to_lem (F.behaviour (F.state files.old).content) (texts_of words.now) (answered answer_of result) }
+    ensures answer { answer_to_lem (F.behaviour (F.state files.old).content) (texts_of words.now)
+        (answered answer_of result) }
     ensures only { OnlyLoads (F.state files.old) (F.state files.new) (IsErrOf result (Ending.Failed Fault.File)) }
 {
     match request_of(words) {
@@ -85,12 +85,15 @@ fn comes_to<'a, F: Files>(
 }
 
 /// Saves what the answer asks for.
-fn save_answer<'a, F: Files>(files: &mut F, answer: Result<Answer<'a>, Ending>) -> Outcome<'a>
-    ensures comes { Comes F.behaviour (F.state files.old).content (F.state files.new).content (λ r. r ≡ answered answer_of answer.entry) (outcome_of result) }
-    ensures loads { (F.state files.new).failed_loads ≡ (F.state files.old).failed_loads }
-    ensures saves { CountsFaults (F.state files.old).failed_saves (F.state files.new).failed_saves (outcome_of result ≡ NotSaved) }
-    ensures file { IsErrOf answer.entry (Ending.Failed Fault.File) → outcome_of result ≡ Stopped (Ending.Failed Fault.File) }
-    ensures file_only { outcome_of result ≡ Stopped (Ending.Failed Fault.File) → IsErrOf answer.entry (Ending.Failed Fault.File) }
+pub(crate) fn save_answer<'a, F: Files>(
+    files: &mut F,
+    answer: Result<Answer<'a>, Ending>,
+) -> Outcome<'a>
+    ensures comes { Comes F.behaviour (F.state files.old).content (F.state files.new).content
+        (λ r. r ≡ answered answer_of answer.entry) (outcome_of result) }
+    ensures only { OnlySaves (F.state files.old) (F.state files.new) (outcome_of result ≡ NotSaved) }
+    ensures file { IsErrOf answer.entry (Ending.Failed Fault.File)
+        ↔ (outcome_of result ≡ Stopped (Ending.Failed Fault.File)) }
 {
     match answer {
         Ok(answer) => match make_save(files, &answer.save) {
@@ -105,8 +108,7 @@ fn save_answer<'a, F: Files>(files: &mut F, answer: Result<Answer<'a>, Ending>) 
 /// Makes the save that is asked for, if one is.
 fn make_save<F: Files>(files: &mut F, save: &Option<Save<'_>>) -> Result<(), OutFault>
     ensures saved { SaveEnds F.behaviour (F.state files.old).content (F.state files.new).content save.now result }
-    ensures loads { (F.state files.new).failed_loads ≡ (F.state files.old).failed_loads }
-    ensures saves { CountsFaults (F.state files.old).failed_saves (F.state files.new).failed_saves (IsErrOf result OutFault.Failed) }
+    ensures only { OnlySaves (F.state files.old) (F.state files.new) (IsErrOf result OutFault.Failed) }
 {
     match save {
         Some(save) => files.save(save.name, &save.bytes),
@@ -115,7 +117,7 @@ fn make_save<F: Files>(files: &mut F, save: &Option<Save<'_>>) -> Result<(), Out
 }
 
 /// Puts the answer's lines, or the line of why there is none.
-fn say<S: Sink>(alloc: Global, outcome: Outcome<'_>, out: &mut S) -> u8
+pub(crate) fn say<S: Sink>(alloc: Global, outcome: Outcome<'_>, out: &mut S) -> u8
     ensures { SaysOutcome (S.state out.old) (S.state out.new) (outcome_of outcome.entry) result }
 {
     match outcome {

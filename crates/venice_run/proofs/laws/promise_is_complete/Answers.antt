@@ -8,7 +8,9 @@ returns g c =
     let before = moment (g.F.Files.state c.args.files.now) (g.S.Sink.state c.args.out.now) in
     let after = moment (g.F.Files.state c.args.files_now.now) (g.S.Sink.state c.args.out_now.now) in
     record {
-      complete = complete g.F.Files.behaviour before after (texts_of c.args.words.now) c.args.status;
-      quiet = uncounted_all g.F.Files.behaviour before after (texts_of c.args.words.now) c.args.status;
+      complete = λ promise quiet. (
+        complete g.F.Files.behaviour before after (texts_of c.args.words.now) c.args.status promise quiet,
+        uncounted_all g.F.Files.behaviour before after (texts_of c.args.words.now) c.args.status promise quiet,
+      );
       never = never_15 g.F.Files.behaviour before after (texts_of c.args.words.now) c.args.status;
     }

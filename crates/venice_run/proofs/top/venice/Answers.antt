@@ -10,8 +10,8 @@ returns g c =
       promise = record {
         outcome = outcome_of c.save_answer-outcome.result;
         comes = comes g.F.Files.behaviour _ _ _ only.content _ _ c.answer_to-answer.ensures.answer _ saved.comes;
-        loads = rw saved.loads (counts_same _ _ saved.file saved.file_only only.loads);
-        saves = rw only.saves at saved.saves;
+        loads = rw saved.only.loads (counts_same _ _ saved.file.0 saved.file.1 only.loads);
+        saves = rw only.saves at saved.only.saves;
         says = c.say.ensures;
       };
     }
