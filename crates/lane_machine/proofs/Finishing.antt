@@ -84,7 +84,7 @@ module _ (before : State) (first : Store) (job : Job VecWork Progress) (rest : L
         let left_by : after ≡ next_store course x store = store_is ∙ ap (λ n. store_beaten (lane_course n) 0 now.jobs store) lanes ∙ ap (λ jobs. store_beaten course 0 jobs store) is in
         let ready : IsReady course (λ work. Reads (Vector work)) (λ work. Writes (Vector work)) x (store_size store) =
         record { more = mine; in_range = lies_later first store job x inside so_far.same_size (All-head (λ left. left.work ≡ job.work) x left works) } in
-        let keeps = next_beat_keeps before.lanes x store store some_lanes ready refl (λ place reads. refl) in
+        let keeps = next_beat_keeps before.lanes x store store some_lanes ready ready (λ place reads. refl) in
         record {
           lanes_are = same_lanes ∙ lanes;
           same_size = ap store_size left_by ∙ keeps.same_size ∙ so_far.same_size;

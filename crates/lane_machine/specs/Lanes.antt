@@ -18,7 +18,8 @@ progress_in (Some current) = progress_of current
 -- the works of the queue as jobs: the first is under way, and no other has begun
 abbrev pub jobs_of : ℕ → List VecWork → Option Current → List (Job VecWork Progress)
 jobs_of lanes [] current = []
-jobs_of lanes (work ∷ works) current = record { work = work; progress = progress_in current } ∷ map (new_job (lane_course lanes)) works
+jobs_of lanes (work ∷ works) current =
+    record { work = work; progress = progress_in current } ∷ map (new_job (lane_course lanes)) works
 
 -- of the queue's first work the lanes keep how far it has come, and of an empty queue nothing
 abbrev pub IsFront : ℕ → List VecWork → Option Current → Type 0

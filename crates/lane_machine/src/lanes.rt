@@ -57,14 +57,17 @@ impl Lanes {
     }
 
     /// Does all beats that are left of the queue's first work, and gives their number. The work leaves the queue, whose
-    /// works all lie in the cells. Of a work that has not begun and is simple they are the whole effect, for each number
-    /// of lanes ("The whole effect" of docs/MACHINE.md).
+    /// works all lie in the cells. Of a work that has not begun and is simple they are the whole effect, for each
+    /// number of lanes ("The whole effect" of docs/MACHINE.md).
     pub fn finish(&mut self, cells: &mut Spad, memory: &mut MainMem) -> u64
         requires some { 0 < length self.old.jobs }
         requires inside { All (LiesIn (store_of cells.old memory.old)) self.old.jobs }
-        ensures count { IfSome (slice_get self.old.jobs 0) (λ job. result ≡ beats_left (lane_course self.old.lanes) job) }
-        ensures store { IfSome (slice_get self.old.jobs 0) (λ job. store_of cells.new memory.new ≡ finished (lane_course self.old.lanes) job (store_of cells.old memory.old)) }
-        ensures whole { IfSome (slice_get self.old.jobs 0) (λ job. job.progress ≡ not_begun → IsSimple job.work → IsWhole job.work cells.old cells.new) }
+        ensures count { IfSome (slice_get self.old.jobs 0) (λ job.
+            result ≡ beats_left (lane_course self.old.lanes) job) }
+        ensures store { IfSome (slice_get self.old.jobs 0) (λ job.
+            store_of cells.new memory.new ≡ finished (lane_course self.old.lanes) job (store_of cells.old memory.old)) }
+        ensures whole { IfSome (slice_get self.old.jobs 0) (λ job.
+            job.progress ≡ not_begun → IsSimple job.work → IsWhole job.work cells.old cells.new) }
         ensures length { length cells.new ≡ length cells.old }
         ensures memory { memory.new ≡ memory.old }
         ensures jobs { self.new ≡ record self.old { jobs = drop 1 self.old.jobs } }
@@ -79,7 +82,8 @@ impl Lanes {
     /// How many beats the queue's first work has left, or 0.
     fn first_beats(&self) -> u64
         ensures some_lanes { 0 < self.now.lanes }
-        ensures first { IfSome (slice_get self.now.jobs 0) (λ job. result ≡ beats_left (lane_course self.now.lanes) job) }
+        ensures first { IfSome (slice_get self.now.jobs 0) (λ job.
+            result ≡ beats_left (lane_course self.now.lanes) job) }
         ensures queue { IsQueue (lane_course self.now.lanes) HasCounts 4 self.now.jobs }
     {
         match (self.queue.front(), &self.current) {

@@ -9,10 +9,10 @@ use crate::{MainMem, Spad};
 
 /// A unit of the machine: a queue of works, of which the first is done beat by beat (docs/MACHINE.md, "Units").
 ///
-/// The queue is a list of jobs, each an unfinished work with its own progress. What a work is, which places it reads and
-/// writes and what its beats are is for each unit to say. The law holds of every unit: a beat, of whichever job, keeps
-/// to its work's footprint. It changes only what the work writes, what it does depends only on what the work reads, and
-/// it brings the work one beat nearer to its end.
+/// The queue is a list of jobs, each an unfinished work with its own progress. What a work is, which places it reads
+/// and writes and what its beats are is for each unit to say. The law holds of every unit: a beat, of whichever job,
+/// keeps to its work's footprint. It changes only what the work writes, what it does depends only on what the work
+/// reads, and it brings the work one beat nearer to its end.
 pub trait Unit {
     /// What the unit does.
     type Work;
@@ -46,8 +46,8 @@ pub trait Unit {
     /// What the unit was made with.
     ghost setting: { Self → Setting };
 
-    /// Puts a work last into the queue, with no beat done. Condition: no count of the work is 0. Err gives the work back,
-    /// with nothing changed, exactly where the queue is full.
+    /// Puts a work last into the queue, with no beat done. Condition: no count of the work is 0. Err gives the work
+    /// back, with nothing changed, exactly where the queue is full.
     fn offer(&mut self, work: Self::Work) -> Result<(), Self::Work>
         requires { has_counts work }
 
@@ -69,17 +69,20 @@ pub trait Unit {
         requires { k < length (jobs self.now) }
         ensures { slice_get (works_of (jobs self.now)) k ≡ Some result.now };
 
-    /// Does the next beat of the queue's first work, and takes the work out of the queue with its last beat; every other
-    /// job stays as it is. False, with nothing changed, exactly where the queue is empty. Condition: the footprints of all
-    /// works of the queue lie in `cells` and `memory`.
+    /// Does the next beat of the queue's first work, and takes the work out of the queue with its last beat; every
+    /// other job stays as it is. False, with nothing changed, exactly where the queue is empty. Condition: the
+    /// footprints of all works of the queue lie in `cells` and `memory`.
     fn beat(&mut self, cells: &mut Spad, memory: &mut MainMem) -> bool
-        requires { All (λ job. IsInRange (reads job.work) (writes job.work) (store_size (store_of cells.old memory.old))) (jobs self.old) }
+        requires { All (λ job.
+            IsInRange (reads job.work) (writes job.work) (store_size (store_of cells.old memory.old))) (jobs self.old) }
 
         ensures beaten { IsTrue result ↔ (0 < length (jobs self.old)) }
         ensures unchanged { IsFalse result → self.new ≡ self.old }
 
-        ensures store { store_of cells.new memory.new ≡ store_beaten (course (setting self.old)) 0 (jobs self.old) (store_of cells.old memory.old) }
-        ensures jobs { jobs self.new ≡ jobs_beaten (course (setting self.old)) 0 (jobs self.old) (store_of cells.old memory.old) }
+        ensures store { store_of cells.new memory.new
+            ≡ store_beaten (course (setting self.old)) 0 (jobs self.old) (store_of cells.old memory.old) }
+        ensures jobs { jobs self.new
+            ≡ jobs_beaten (course (setting self.old)) 0 (jobs self.old) (store_of cells.old memory.old) }
         ensures same_setting { setting self.new ≡ setting self.old };
 
     /// A work that has counts begins with no beat done, and takes one at least.
@@ -89,8 +92,9 @@ pub trait Unit {
     /// A work's footprint lies in stores of some size.
     ghost has_an_end: { (work : Self.Work) → (size : Size) × IsInRange (reads work) (writes work) size };
 
-    /// The next beat of a job keeps to its work's footprint.
+    /// The next beat of a job keeps to its work's footprint, in any two stores that have it.
     ghost keeps_to_footprint: { (made : Setting) (job : Job Self.Work Progress) (first second : Store) →
-        can_have made → IsReady (course made) reads writes job (store_size first) → store_size second ≡ store_size first → AgreeOn (reads job.work) first second →
+        can_have made → IsReady (course made) reads writes job (store_size first) →
+        IsReady (course made) reads writes job (store_size second) → AgreeOn (reads job.work) first second →
         KeepsToFootprint (course made) writes job first second };
 }

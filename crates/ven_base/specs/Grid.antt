@@ -27,13 +27,15 @@ value_at grid i j = slice_index_or grid.values (i * grid.shape.cols + j) (pos 0)
 
 -- the value at index (i, j) of the array's image under a mapping: that at the source, or the fill where there is none
 abbrev pub mapped_at : Mapping → Grid → ℕ → ℕ → ℤ
-mapped_at mapping grid i j = option_map_or (λ s. value_at grid s.0 s.1) (source_of mapping grid.shape i j) (fill_of mapping)
+mapped_at mapping grid i j =
+    option_map_or (λ s. value_at grid s.0 s.1) (source_of mapping grid.shape i j) (fill_of mapping)
 
 -- an array of the operand's type and shape, whose value at each index is the operation's result there
 pub record IsPointwise1 (op : Op1) (operand result : Grid) : Type 0 where
   pub elem_is : result.elem ≡ operand.elem
   pub shape_is : result.shape ≡ operand.shape
-  pub values_are : (i j : ℕ) → IsIndex result.shape i j → value_at result i j ≡ applied1 op operand.elem (value_at operand i j)
+  pub values_are : (i j : ℕ) → IsIndex result.shape i j
+      → value_at result i j ≡ applied1 op operand.elem (value_at operand i j)
 
 -- the same of two operands of one type and one shape
 pub record IsPointwise2 (op : Op2) (left right result : Grid) : Type 0 where
@@ -41,9 +43,11 @@ pub record IsPointwise2 (op : Op2) (left right result : Grid) : Type 0 where
   pub one_shape : left.shape ≡ right.shape
   pub elem_is : result.elem ≡ left.elem
   pub shape_is : result.shape ≡ left.shape
-  pub values_are : (i j : ℕ) → IsIndex result.shape i j → value_at result i j ≡ applied2 op left.elem (value_at left i j) (value_at right i j)
+  pub values_are : (i j : ℕ) → IsIndex result.shape i j
+      → value_at result i j ≡ applied2 op left.elem (value_at left i j) (value_at right i j)
 
--- an array of the operand's type and the mapping's result shape, whose value at each index is that at its source, or the fill
+-- an array of the operand's type and the mapping's result shape, whose value at each index is that at its source, or
+-- the fill
 pub record IsMapped (mapping : Mapping) (operand result : Grid) : Type 0 where
   pub elem_is : result.elem ≡ operand.elem
   pub shape_is : result.shape ≡ result_shape mapping operand.shape

@@ -10,8 +10,8 @@ pub record Job (Work Progress : Type 0) : Type 0 where
 abbrev pub works_of : {Work Progress : Type 0} → List (Job Work Progress) → List Work
 works_of jobs = map (λ job. job.work) jobs
 
--- how works go: where each begins, how many beats it takes and how many are done, and what its next beat leaves in cells and
--- memory and of its progress
+-- how works go: where each begins, how many beats it takes and how many are done, and what its next beat leaves in
+-- cells and memory and of its progress
 pub record Course (Work Progress : Type 0) : Type 0 where
   pub not_begun : Progress
   pub beats : Work → ℕ
@@ -42,7 +42,8 @@ module _ {Work Progress : Type 0} (course : Course Work Progress) where
 
   -- or is no more, with its last beat
   abbrev pub what_is_left : Job Work Progress → Store → List (Job Work Progress)
-  what_is_left job store = if nat_lt (course.done job.progress + 1) (course.beats job.work) then next_job job store ∷ [] else []
+  what_is_left job store =
+      if nat_lt (course.done job.progress + 1) (course.beats job.work) then next_job job store ∷ [] else []
 
   -- jobs, of which the one at a place makes its next beat
   abbrev pub jobs_beaten : (place : ℕ) → List (Job Work Progress) → Store → List (Job Work Progress)
@@ -81,7 +82,8 @@ module _ {Work Progress : Type 0} (course : Course Work Progress) where
 
   -- the job's next beat does the same in both stores: it gives the same to places that the work writes, leaves all else
   -- alone, and brings the work as far, one beat nearer to its end
-  pub record KeepsToFootprint (writes : Work → Place → Type 0) (job : Job Work Progress) (first second : Store) : Type 0 where
+  pub record KeepsToFootprint (writes : Work → Place → Type 0) (job : Job Work Progress) (first second : Store)
+      : Type 0 where
     pub same_size : store_size (next_store job first) ≡ store_size first
     pub comes_nearer : course.done (next_job job first).progress ≡ course.done job.progress + 1
     pub same_progress : (next_job job second).progress ≡ (next_job job first).progress

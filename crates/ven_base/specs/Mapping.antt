@@ -14,7 +14,8 @@ index_of_both None j = None
 -- the index of an operand of this shape that index (i, j) of the result stands for: none where a shift leaves the shape
 abbrev pub source_of : Mapping → Extent → ℕ → ℕ → Option (ℕ × ℕ)
 source_of Identity shape i j = Some (i, j)
-source_of (Shift dr dc fill) shape i j = index_of_both (place_within shape.rows (pos i +ℤ dr)) (place_within shape.cols (pos j +ℤ dc))
+source_of (Shift dr dc fill) shape i j =
+    index_of_both (place_within shape.rows (pos i +ℤ dr)) (place_within shape.cols (pos j +ℤ dc))
 source_of (Rotate dr dc) shape i j = Some (place_round shape.rows (pos i +ℤ dr), place_round shape.cols (pos j +ℤ dc))
 source_of (Section r0 nr sr c0 nc sc) shape i j = Some (r0 + i * sr, c0 + j * sc)
 source_of (Stretch kr kc) shape i j = Some (i / kr, j / kc)

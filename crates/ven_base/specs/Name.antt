@@ -31,8 +31,12 @@ reserved_words =
 abbrev pub IsReserved : List ℕ → Type 0
 IsReserved bytes = Contains reserved_words bytes
 
+-- the most bytes that a name may have
+abbrev pub name_limit : ℕ
+name_limit = 31
+
 -- the bytes of a name: a name token of at most 31 bytes that isn't reserved
 pub record IsName (bytes : List ℕ) : Type 0 where
   pub token : IsNameToken bytes
-  pub short : length bytes ≤ 31
+  pub short : length bytes ≤ name_limit
   pub free : ¬ IsReserved bytes

@@ -1,5 +1,5 @@
--- What the operations give: the result on whole numbers, which is then wrapped into the type; a saturating operation gives
--- the nearest number of the type instead.
+-- What the operations give: the result on whole numbers, which is then wrapped into the type; a saturating operation
+-- gives the nearest number of the type instead.
 use Rattle.std.specs.Prelude.{ℕ, ℤ, pos, negsuc, ◌^◌, ◌+ℤ◌, ◌-ℤ◌, ◌*ℤ◌, neg_ℤ, unsigned_abs, Bool, if◌then◌else◌, bit_and, bit_or, bit_xor, int_lt, not}
 use Rattle.std.specs.Int.{int_rem_euclid, int_div_euclid, int_min, int_max}
 use Rattle.std.specs.Ordering.{int_eq}
@@ -12,7 +12,8 @@ use Rattle.ven_base.specs.Elem.{width_of, modulus_of}
 use Rattle.ven_base.specs.Wrap.{wrapped}
 use Rattle.ven_base.specs.Saturation.{nearest}
 
--- the bits of a number, as its two's complement of the type's width: the number from 0 on that equals it modulo 2 to the width
+-- the bits of a number, as its two's complement of the type's width: the number from 0 on that equals it modulo 2 to
+-- the width
 abbrev pub bits_of : Elem → ℤ → ℕ
 bits_of elem x = unsigned_abs (int_rem_euclid x (pos (modulus_of elem)))
 
@@ -30,7 +31,8 @@ exact1 Neg x = neg_ℤ x
 exact1 Not x = negsuc 0 -ℤ x
 exact1 Abs x = pos (unsigned_abs x)
 
--- an operation on two whole numbers. A shift to the right is a division by a power of two that rounds down, so it keeps the sign
+-- an operation on two whole numbers. A shift to the right is a division by a power of two that rounds down, so it keeps
+-- the sign
 abbrev pub exact2 : Op2 → Elem → ℤ → ℤ → ℤ
 exact2 Add elem x y = x +ℤ y
 exact2 Sub elem x y = x -ℤ y

@@ -12,10 +12,13 @@ place_within n (negsuc k) = None
 abbrev pub place_round : ℕ → ℤ → ℕ
 place_round n k = unsigned_abs (int_rem_euclid k (pos n))
 
--- how far a shift or a rotation may go, to either side
+-- the furthest that a shift or a rotation may go, to either side
+abbrev pub move_limit : ℕ
+move_limit = 4294967295
+
 pub record IsMove (d : ℤ) : Type 0 where
-  pub least : neg_ℤ (pos 4294967295) ≤ℤ d
-  pub most : d ≤ℤ pos 4294967295
+  pub least : neg_ℤ (pos move_limit) ≤ℤ d
+  pub most : d ≤ℤ pos move_limit
 
 -- count places from the first on in steps of step, the last of them below n
 pub record IsCut (n first count step : ℕ) : Type 0 where

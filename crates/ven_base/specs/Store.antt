@@ -49,4 +49,5 @@ abbrev pub ChangeAlike : (Place → Type 0) → (first first_after second second
 ChangeAlike places first first_after second second_after =
     (place : Place)
     → (places place × (content_at second_after place ≡ content_at first_after place))
-    ⊎ ((content_at first_after place ≡ content_at first place) × (content_at second_after place ≡ content_at second place))
+    ⊎ ((content_at first_after place ≡ content_at first place)
+      × (content_at second_after place ≡ content_at second place))

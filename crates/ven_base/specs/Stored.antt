@@ -1,6 +1,6 @@
--- How a name lies in its 31 bytes: its own bytes first, and then zeros.
+-- Inner: how a name lies in its 31 bytes: its own bytes first, and then zeros.
 use Rattle.std.specs.Prelude.{◌≡◌, ℕ, ◌-◌, List, ◌++◌, length, take, replicate}
-use Rattle.ven_base.specs.Name.{IsName}
+use Rattle.ven_base.specs.Name.{IsName, name_limit}
 
 -- the bytes that the first len places hold
 abbrev pub stored_bytes : List ℕ → ℕ → List ℕ
@@ -8,7 +8,7 @@ stored_bytes bytes len = take len bytes
 
 -- the name's bytes, with zeros up to 31
 abbrev pub padded : List ℕ → List ℕ
-padded name = name ++ replicate (31 - length name) 0
+padded name = name ++ replicate (name_limit - length name) 0
 
 -- these places hold a name of this length
 pub record IsStored (bytes : List ℕ) (len : ℕ) : Type 0 where

@@ -1,5 +1,5 @@
-//! The operations on numbers of a type: the result on whole numbers, wrapped into the type, or of a saturating operation
-//! the nearest number of the type (docs/LANGUAGE.md, "Operations").
+//! The operations on numbers of a type: the result on whole numbers, wrapped into the type, or of a saturating
+//! operation the nearest number of the type (docs/LANGUAGE.md, "Operations").
 ghost use Rattle.std.specs.Prelude.{◌≡◌, ◌<◌};
 ghost use Rattle.ven_base.specs.Elem.{IsElement};
 ghost use Rattle.ven_base.specs.Operation.{applied1, applied2, amount_of};
@@ -23,7 +23,8 @@ pub fn apply1(op: Op1, elem: Elem, x: i64) -> i64
 }
 
 /// The operation's result on `x` and `y`, numbers of the type, wrapped into the type, or with `SatAdd` and `SatSub` the
-/// nearest number of the type. The amount of a shift counts modulo the type's width in bits, and a comparison gives 1 or 0.
+/// nearest number of the type. The amount of a shift counts modulo the type's width in bits, and a comparison gives 1
+/// or 0.
 #[inline]
 pub fn apply2(op: Op2, elem: Elem, x: i64, y: i64) -> i64
     requires left { IsElement elem x }

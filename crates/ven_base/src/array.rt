@@ -7,7 +7,8 @@ ghost use Rattle.ven_base.specs.Grid.{IsGrid, value_at};
 use crate::{Elem, Shape};
 use std::marker::Model;
 
-/// An array: one value for each element of its shape, row by row from row 0 and column 0 on, each in the range of its type.
+/// An array: one value for each element of its shape, row by row from row 0 and column 0 on, each in the range of its
+/// type.
 #[derive(Debug, Drop)]
 pub struct Array {
     pub elem: Elem,
@@ -26,8 +27,8 @@ impl Model for Array {
 }
 
 impl Array {
-    /// The array of these values, row by row: `None` exactly where they aren't as many as the shape has elements, or one of
-    /// them isn't a number of the type. Then the values are dropped.
+    /// The array of these values, row by row: `None` exactly where they aren't as many as the shape has elements, or
+    /// one of them isn't a number of the type. Then the values are dropped.
     pub fn new(elem: Elem, shape: Shape, values: Vec<i64>) -> Option<Array>
         ensures found { IsSome result ↔ IsGrid (record { elem = elem; shape = shape; values = values.items }) }
         ensures value { IfSome result (λ array. array ≡ record { elem = elem; shape = shape; values = values.items }) }

@@ -36,13 +36,15 @@ impl Arrays {
         }
     }
 
-    /// Appends the pair and gives true. Gives false exactly where the name is there: then nothing is changed, and the array
-    /// is dropped. `AllocError` where memory is wanting, with nothing changed. There are fewer than 4,294,967,295 pairs before.
+    /// Appends the pair and gives true. Gives false exactly where the name is there: then nothing is changed, and the
+    /// array is dropped. `AllocError` where memory is wanting, with nothing changed. There are fewer than 4,294,967,295
+    /// pairs before.
     pub fn add(&mut self, name: Name, array: Array) -> Result<bool, AllocError>
         requires { length self.old < 2 ^ 32 - 1 }
         ensures added { IfOk result (λ added. IsTrue added → self.new ≡ self.old ++ (name, array) ∷ []) }
         ensures new_name { IfOk result (λ added. IsTrue added → ¬ Contains (names_of self.old) name) }
-        ensures there { IfOk result (λ added. added ≡ false → Contains (names_of self.old) name × (self.new ≡ self.old)) }
+        ensures there { IfOk result (λ added. added ≡ false →
+            Contains (names_of self.old) name × (self.new ≡ self.old)) }
         ensures err { OnErr result (self.new ≡ self.old) }
     {
         // What is known of every name shows in its bytes.

@@ -12,9 +12,9 @@ pub fn wrapping_laws()
     ensures products { WrapsProducts }
 {}
 
-/// What holds of operations: the amount of a shift is below the width and congruent to the operand modulo the width, the bits
-/// of a number are below 2 to the width and congruent to it modulo that, `>>` rounds down, and no number of a type is nearer
-/// than the one that saturation gives.
+/// What holds of operations: the amount of a shift is below the width and congruent to the operand modulo the width,
+/// the bits of a number are below 2 to the width and congruent to it modulo that, `>>` rounds down, and no number of a
+/// type is nearer than the one that saturation gives.
 pub fn operation_laws()
     ensures amounts { ReducesAmounts }
     ensures bits { ReducesBits }
@@ -22,9 +22,9 @@ pub fn operation_laws()
     ensures nearest { ReachesNearest }
 {}
 
-/// What holds of reductions: each list of at least one value has one, and no list has two; where the values are numbers of
-/// the type, so is the reduction; the reductions of a list's parts make that of the whole; and a sum is the same for any cut
-/// into parts, and wrapped at each step or once.
+/// What holds of reductions: each list of at least one value has one, and no list has two; where the values are numbers
+/// of the type, so is the reduction; the reductions of a list's parts make that of the whole; and a sum is the same for
+/// any cut into parts, and wrapped at each step or once.
 pub fn reduction_laws()
     ensures cuts_sums { CutsSums }
     ensures cuts_into_parts { CutsSumsIntoParts }
@@ -35,16 +35,16 @@ pub fn reduction_laws()
     ensures in_type { ReducesInType }
 {}
 
-/// What holds of places: going round n places gives the place below n that is congruent modulo n, and a number is one of the
-/// n places exactly where it is from 0 on and below n.
+/// What holds of places: going round n places gives the place below n that is congruent modulo n, and a number is one
+/// of the n places exactly where it is from 0 on and below n.
 pub fn place_laws()
     ensures goes_round { GoesRound }
     ensures finds { FindsPlaces }
 {}
 
-/// What holds of index maps: sources lie in the operand, results have a shape, a stretch repeats each element over a block,
-/// and the sources of a piece of a section's, a stretch's, a shift's or a rotation's result are those of one that begins
-/// further on, a stretch's at a whole block. Such a section or stretch fits.
+/// What holds of index maps: sources lie in the operand, results have a shape, a stretch repeats each element over a
+/// block, and the sources of a piece of a section's, a stretch's, a shift's or a rotation's result are those of one
+/// that begins further on, a stretch's at a whole block. Such a section or stretch fits.
 pub fn mapping_laws()
     ensures inside { SourcesAreInside }
     ensures shapes { ResultsAreShapes }

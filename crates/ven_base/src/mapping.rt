@@ -5,8 +5,8 @@ ghost use Rattle.ven_base.specs.Place.{IsMove, IsCut, place_within as place_insi
 
 use crate::{ELEMENT_LIMIT, Shape};
 
-/// A map of indices. The element at (i, j) of its result, row i and column j from 0 on, is an element of its operand, or a
-/// fill.
+/// A map of indices. The element at (i, j) of its result, row i and column j from 0 on, is an element of its operand,
+/// or a fill.
 #[derive(Clone, Copy, Debug, PartialEq, Eq, Hash)]
 pub enum Mapping {
     /// The operand itself: element (i, j), in the operand's shape.
@@ -18,8 +18,8 @@ pub enum Mapping {
         dc: i64,
         fill: i64,
     },
-    /// The element `dr` rows down and `dc` columns right, going round at the ends: i + dr modulo the rows and j + dc modulo
-    /// the columns, never negative. The result has the operand's shape.
+    /// The element `dr` rows down and `dc` columns right, going round at the ends: i + dr modulo the rows and j + dc
+    /// modulo the columns, never negative. The result has the operand's shape.
     Rotate {
         dr: i64,
         dc: i64,
@@ -34,14 +34,14 @@ pub enum Mapping {
         nc: u32,
         sc: u32,
     },
-    /// Each row `kr` times, and each column `kc` times: element (i / kr, j / kc), in `kr` times the rows and `kc` times the
-    /// columns.
+    /// Each row `kr` times, and each column `kc` times: element (i / kr, j / kc), in `kr` times the rows and `kc` times
+    /// the columns.
     Stretch {
         kr: u32,
         kc: u32,
     },
-    /// Rows and columns exchanged: element (j, i), in as many rows as the operand has columns, and as many columns as it
-    /// has rows.
+    /// Rows and columns exchanged: element (j, i), in as many rows as the operand has columns, and as many columns as
+    /// it has rows.
     Transpose,
 }
 
@@ -51,7 +51,8 @@ impl Mapping {
     ghost use Rattle.ven_base.specs.Mapping.{source_of, result_shape, FitsShape};
 
     /// Whether the mapping may be taken of an array of shape `of`: a section lies inside, with steps and counts that
-    /// aren't 0, a stretch has no 0 and at most 1,048,576 elements, and shifts and rotations go at most 4,294,967,295 far.
+    /// aren't 0, a stretch has no 0 and at most 1,048,576 elements, and shifts and rotations go at most 4,294,967,295
+    /// far.
     pub fn fits(&self, of: Shape) -> bool
         ensures { IsTrue result ↔ FitsShape self.now of }
     {
@@ -90,7 +91,8 @@ impl Mapping {
         }
     }
 
-    /// The index of an operand of shape `of` that index (i, j) of the result stands for, each a row and a column from 0.
+    /// The index of an operand of shape `of` that index (i, j) of the result stands for, each a row and a column from
+    /// 0.
     /// `None` exactly where a shift leaves the shape.
     pub fn source(&self, of: Shape, i: u32, j: u32) -> Option<(u32, u32)>
         requires fits { FitsShape self.now of }
@@ -116,11 +118,14 @@ impl Mapping {
     }
 }
 
+/// The furthest that a shift or a rotation may go, to either side.
+const MOVE_LIMIT: i64 = 4_294_967_295;
+
 /// Whether a shift or a rotation may go this far.
 fn is_move(d: i64) -> bool
     ensures { IsTrue result ↔ IsMove d }
 {
-    -4_294_967_295 <= d && d <= 4_294_967_295
+    -MOVE_LIMIT <= d && d <= MOVE_LIMIT
 }
 
 /// Whether so many places, from the first on in these steps, lie among n places.

@@ -111,8 +111,8 @@ fn are_name_bytes(bytes: &[u8]) -> bool
     bytes.iter().all(|byte| is_name_byte(*byte))
 }
 
-/// Whether the bytes are a word that the array language keeps for itself: one of the 23 of statements, element types and
-/// functions.
+/// Whether the bytes are a word that the array language keeps for itself: one of the 23 of statements, element types
+/// and functions.
 pub fn is_reserved(bytes: &[u8]) -> bool
     ensures { IsTrue result ↔ IsReserved bytes.now }
 {

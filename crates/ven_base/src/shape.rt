@@ -27,7 +27,8 @@ impl Model for Shape {
 }
 
 impl Shape {
-    /// The shape of this many rows and columns: `None` exactly where one of them is 0 or their product is above 1,048,576.
+    /// The shape of this many rows and columns: `None` exactly where one of them is 0 or their product is above
+    /// 1,048,576.
     pub fn new(rows: u32, cols: u32) -> Option<Shape>
         ensures found { IsSome result ↔ IsExtent (record { rows = rows; cols = cols }) }
         ensures value { IfSome result (λ shape. shape ≡ record { rows = rows; cols = cols }) }

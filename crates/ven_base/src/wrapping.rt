@@ -24,8 +24,8 @@ pub(crate) fn wrap_word(elem: Elem, n: i64) -> i64
     number_of(elem, low_bits(n))
 }
 
-/// The bits of `n`, as its two's complement of the type's width: the number from 0 on, below 2 to the width, that equals `n`
-/// modulo 2 to the width. `n` may be any number.
+/// The bits of `n`, as its two's complement of the type's width: the number from 0 on, below 2 to the width, that
+/// equals `n` modulo 2 to the width. `n` may be any number.
 #[inline]
 pub fn bits_of(elem: Elem, n: i64) -> u32
     ensures value { result ≡ bits_of elem n }

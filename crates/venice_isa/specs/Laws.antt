@@ -33,24 +33,28 @@ WholeWritesItsFootprint =
 abbrev pub WholeReadsItsFootprint : Type 0
 WholeReadsItsFootprint =
     (work : VecWork) (before after before' after' : List Cell) → IsWhole work before after → IsWhole work before' after'
-    → length before' ≡ length before → ((p : ℕ) → Reads (Vector work) (in_cells p) → cell_at before' p ≡ cell_at before p)
+    → length before' ≡ length before
+    → ((p : ℕ) → Reads (Vector work) (in_cells p) → cell_at before' p ≡ cell_at before p)
     → (p : ℕ) → Writes (Vector work) (in_cells p) → cell_at after' p ≡ cell_at after p
 
 -- the cells before determine the cells after
 abbrev pub WholeIsDetermined : Type 0
 WholeIsDetermined =
-    (work : VecWork) (before after after' : List Cell) → IsWhole work before after → IsWhole work before after' → after' ≡ after
+    (work : VecWork) (before after after' : List Cell) → IsWhole work before after → IsWhole work before after'
+        → after' ≡ after
 
 -- a read copies its bytes of memory to their cells, and changes no other cell
 abbrev pub ReadCopiesItsRows : Type 0
 ReadCopiesItsRows =
-    (work : DmaWork) (memory : List ℕ) (cells : List Cell) → LiesBelow (memory_of work) (length memory) → LiesBelow (cells_of work) (length cells)
+    (work : DmaWork) (memory : List ℕ) (cells : List Cell) → LiesBelow (memory_of work) (length memory)
+        → LiesBelow (cells_of work) (length cells)
     → IsCopied clear 0 (0, false) (memory_of work) (cells_of work) memory cells (read_into work memory cells)
 
 -- a write copies the bytes of its cells to their places in memory, and changes no other byte
 abbrev pub WriteCopiesItsRows : Type 0
 WriteCopiesItsRows =
-    (work : DmaWork) (cells : List Cell) (memory : List ℕ) → LiesBelow (cells_of work) (length cells) → LiesBelow (memory_of work) (length memory)
+    (work : DmaWork) (cells : List Cell) (memory : List ℕ) → LiesBelow (cells_of work) (length cells)
+        → LiesBelow (memory_of work) (length memory)
     → IsCopied byte_of (0, false) 0 (cells_of work) (memory_of work) cells memory (written_back work cells memory)
 
 -- the bytes of a number of a type spell that number: as many as an element has, each below 256
@@ -77,13 +81,17 @@ BeatsAreTheWhole =
 abbrev pub BeatsAreTheCopy : Type 0
 BeatsAreTheCopy =
     (work : DmaWork) (lanes : ℕ) (store : Store)
-    → (IsInRange (Reads (Read work)) (Writes (Read work)) (store_size store) → DoesOne (Read work) store (after_all_beats (Read work) lanes store))
-    × (IsInRange (Reads (Write work)) (Writes (Write work)) (store_size store) → DoesOne (Write work) store (after_all_beats (Write work) lanes store))
+   
+    → (IsInRange (Reads (Read work)) (Writes (Read work)) (store_size store)
+      → DoesOne (Read work) store (after_all_beats (Read work) lanes store))
+    × (IsInRange (Reads (Write work)) (Writes (Write work)) (store_size store)
+      → DoesOne (Write work) store (after_all_beats (Write work) lanes store))
 
--- the next beat of a work, whatever has been done of it, keeps to the work's footprint: in two stores of one size that have
--- the footprint and agree on what the work reads it does the same, and of what it leaves only places that the work writes change
+-- the next beat of a work, whatever has been done of it, keeps to the work's footprint: in any two stores that have the
+-- footprint and agree on what the work reads it does the same, and only places that the work writes change
 abbrev pub NextBeatKeepsToFootprint : Type 0
 NextBeatKeepsToFootprint =
-    (lanes : ℕ) (job : Job Issue Progress) (first second : Store)
-    → 0 < lanes → IsReady (course_of lanes) Reads Writes job (store_size first) → store_size second ≡ store_size first → AgreeOn (Reads job.work) first second
-    → KeepsToFootprint (course_of lanes) Writes job first second
+    (lanes : ℕ) (job : Job Issue Progress) (first second : Store) → 0 < lanes
+    → IsReady (course_of lanes) Reads Writes job (store_size first)
+    → IsReady (course_of lanes) Reads Writes job (store_size second)
+    → AgreeOn (Reads job.work) first second → KeepsToFootprint (course_of lanes) Writes job first second

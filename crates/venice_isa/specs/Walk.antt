@@ -1,4 +1,4 @@
--- How far beats have come: the group that is next, and the ways to it through regions.
+-- Inner: how far beats have come: the group that is next, and the ways to it through regions.
 use Rattle.std.specs.Prelude.{◌≡◌, ℕ, ◌+◌, ◌*◌, ◌<◌}
 use Rattle.venice_isa.specs.declared.region.Region.{Region}
 use Rattle.venice_isa.specs.declared.walk.Walk.{Walk}

@@ -29,7 +29,8 @@ impl Issue {
     /// Whether every byte that the issue reads or writes lies in `cells` cells and `memory` bytes of memory
     /// (docs/MACHINE.md, "Footprints"). A wait touches none, and so is in range. Constant time.
     pub fn is_in_range(&self, cells: u32, memory: u32) -> bool
-        ensures { IsTrue result ↔ IsInRange (Reads self.now) (Writes self.now) (record { cells = cells; memory = memory }) }
+        ensures { IsTrue result
+            ↔ IsInRange (Reads self.now) (Writes self.now) (record { cells = cells; memory = memory }) }
     {
         match self {
             Issue::Vector(work) => work.is_in_range(cells),

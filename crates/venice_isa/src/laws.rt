@@ -56,8 +56,8 @@ pub fn beats_are_the_copy()
 {}
 
 /// The next beat of any work, whatever has been done of it, keeps to the work's footprint. It changes only what the
-/// work writes. What it does, and how far it brings the work, depends only on what the work reads: it is the same in any
-/// two stores of one size that have the footprint and agree there. And it brings the work one beat nearer to its end.
+/// work writes. What it does, and how far it brings the work, depends only on what the work reads: it is the same in
+/// any two stores that have the footprint and agree there. And it brings the work one beat nearer to its end.
 pub fn next_beat_keeps_to_footprint()
     ensures { NextBeatKeepsToFootprint }
 {}

@@ -3,10 +3,10 @@
 use crate::kind::VecKind;
 use crate::region::Region;
 
-/// A vector instruction with its parameters (docs/MACHINE.md, "Vector instructions"). `vl` counts the elements of a row,
-/// and `rows` the rows. `dst`, `a` and `b` are cells, in which row 0 begins; a scalar's number stands in `a` or `b`
-/// itself. The steps count cells from one row's beginning to the next. Any numbers may stand here: a unit takes no work
-/// with a count of 0, and `is_in_range` says whether the cells suffice.
+/// A vector instruction with its parameters (docs/MACHINE.md, "Vector instructions"). `vl` counts the elements of a
+/// row, and `rows` the rows. `dst`, `a` and `b` are cells, in which row 0 begins; a scalar's number stands in `a` or
+/// `b` itself. The steps count cells from one row's beginning to the next. Any numbers may stand here: a unit takes no
+/// work with a count of 0, and `is_in_range` says whether the cells suffice.
 #[derive(Clone, Copy, Debug, PartialEq, Eq, Hash)]
 pub struct VecWork {
     pub kind: VecKind,
@@ -22,8 +22,8 @@ pub struct VecWork {
 
 /// A transfer between memory and cells (docs/MACHINE.md, "Transfers"). `mem` is a place in memory and `spad` a cell, at
 /// which row 0 begins; each of the `rows` rows has `bytes` bytes, and the steps count bytes from one row's beginning to
-/// the next on either side. The tag is what a `TWait` may name; it has no say in what the transfer does. Any numbers may
-/// stand here, as in a `VecWork`.
+/// the next on either side. The tag is what a `TWait` may name; it has no say in what the transfer does. Any numbers
+/// may stand here, as in a `VecWork`.
 #[derive(Clone, Copy, Debug, PartialEq, Eq, Hash)]
 pub struct DmaWork {
     pub mem: u32,
@@ -110,7 +110,8 @@ impl VecWork {
 
     /// Whether B's cells, where B is used and is no scalar, lie below `cells`.
     fn has_b_below(&self, cells: u32) -> bool
-        ensures { IsTrue result ↔ (IsTrue (uses_b self.now.kind.op) → IsFalse self.now.kind.b_scalar → LiesBelow (source_b self.now) cells) }
+        ensures { IsTrue result ↔
+            (IsTrue (uses_b self.now.kind.op) → IsFalse self.now.kind.b_scalar → LiesBelow (source_b self.now) cells) }
     {
         !self.has_b_in_cells() || self.source_b().lies_below(cells)
     }
@@ -119,7 +120,8 @@ impl VecWork {
     fn has_sources_below(&self, cells: u32) -> bool
         ensures { IsTrue result
             ↔ (IsFalse self.now.kind.a_scalar → LiesBelow (source_a self.now) cells)
-            × (IsTrue (uses_b self.now.kind.op) → IsFalse self.now.kind.b_scalar → LiesBelow (source_b self.now) cells) }
+            × (IsTrue (uses_b self.now.kind.op) → IsFalse self.now.kind.b_scalar
+                → LiesBelow (source_b self.now) cells) }
     {
         self.has_a_below(cells) && self.has_b_below(cells)
     }
@@ -127,7 +129,8 @@ impl VecWork {
     /// Whether every cell that the instruction reads or writes is one of `cells` cells (docs/MACHINE.md, "Footprints").
     /// An instruction with a count of 0 touches none, and so is in range. It touches no memory. Constant time.
     pub fn is_in_range(&self, cells: u32) -> bool
-        ensures { IsTrue result ↔ IsInRange (Reads (Vector self.now)) (Writes (Vector self.now)) (record { cells = cells; memory = 0 }) }
+        ensures { IsTrue result
+            ↔ IsInRange (Reads (Vector self.now)) (Writes (Vector self.now)) (record { cells = cells; memory = 0 }) }
     {
         self.has_sources_below(cells) && self.destination().lies_below(cells)
     }
@@ -188,11 +191,13 @@ impl DmaWork {
     }
 
     /// Whether every byte of the transfer, whichever way it goes, lies in `cells` cells on the one side and in `memory`
-    /// bytes of memory on the other (docs/MACHINE.md, "Footprints"). A transfer with a count of 0 has no bytes, and so is
-    /// in range. Constant time.
+    /// bytes of memory on the other (docs/MACHINE.md, "Footprints"). A transfer with a count of 0 has no bytes, and so
+    /// is in range. Constant time.
     pub fn is_in_range(&self, cells: u32, memory: u32) -> bool
-        ensures read { IsTrue result ↔ IsInRange (Reads (Read self.now)) (Writes (Read self.now)) (record { cells = cells; memory = memory }) }
-        ensures write { IsTrue result ↔ IsInRange (Reads (Write self.now)) (Writes (Write self.now)) (record { cells = cells; memory = memory }) }
+        ensures read { IsTrue result
+            ↔ IsInRange (Reads (Read self.now)) (Writes (Read self.now)) (record { cells = cells; memory = memory }) }
+        ensures write { IsTrue result
+            ↔ IsInRange (Reads (Write self.now)) (Writes (Write self.now)) (record { cells = cells; memory = memory }) }
     {
         self.cells().lies_below(cells) && self.memory().lies_below(memory)
     }
