@@ -127,7 +127,6 @@ ResultsAreShapes = (mapping : Mapping) (shape : Extent) → IsExtent shape → F
 -- a piece of a section, from row r and column c of the result on, is a section that begins further on
 abbrev pub CutsSections : Type 0
 CutsSections = (r0 nr sr c0 nc sc h w : ℕ) (shape : Extent) (r c i j : ℕ)
-   
     → source_of (Section (r0 + r * sr) h sr (c0 + c * sc) w sc) shape i j
     ≡ source_of (Section r0 nr sr c0 nc sc) shape (r + i) (c + j)
 

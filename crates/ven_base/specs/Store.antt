@@ -50,4 +50,4 @@ ChangeAlike places first first_after second second_after =
     (place : Place)
     → (places place × (content_at second_after place ≡ content_at first_after place))
     ⊎ ((content_at first_after place ≡ content_at first place)
-      × (content_at second_after place ≡ content_at second place))
+    × (content_at second_after place ≡ content_at second place))

@@ -86,7 +86,7 @@ cells_after_sum work lanes progress cells =
     let group = lane_group_at work lanes progress in
     if nat_le work.vl (group.first + group.count)
     then overwritten cells (place_in (destination work) group.row 0)
-        (spelled_sum work (sum_after work progress cells group))
+    (spelled_sum work (sum_after work progress cells group))
     else cells
 
 unfoldable pub sum_left : VecWork → ℕ → Progress → List Cell → ℤ

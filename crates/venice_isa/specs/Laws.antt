@@ -41,20 +41,20 @@ WholeReadsItsFootprint =
 abbrev pub WholeIsDetermined : Type 0
 WholeIsDetermined =
     (work : VecWork) (before after after' : List Cell) → IsWhole work before after → IsWhole work before after'
-        → after' ≡ after
+    → after' ≡ after
 
 -- a read copies its bytes of memory to their cells, and changes no other cell
 abbrev pub ReadCopiesItsRows : Type 0
 ReadCopiesItsRows =
     (work : DmaWork) (memory : List ℕ) (cells : List Cell) → LiesBelow (memory_of work) (length memory)
-        → LiesBelow (cells_of work) (length cells)
+    → LiesBelow (cells_of work) (length cells)
     → IsCopied clear 0 (0, false) (memory_of work) (cells_of work) memory cells (read_into work memory cells)
 
 -- a write copies the bytes of its cells to their places in memory, and changes no other byte
 abbrev pub WriteCopiesItsRows : Type 0
 WriteCopiesItsRows =
     (work : DmaWork) (cells : List Cell) (memory : List ℕ) → LiesBelow (cells_of work) (length cells)
-        → LiesBelow (memory_of work) (length memory)
+    → LiesBelow (memory_of work) (length memory)
     → IsCopied byte_of (0, false) 0 (cells_of work) (memory_of work) cells memory (written_back work cells memory)
 
 -- the bytes of a number of a type spell that number: as many as an element has, each below 256
@@ -81,11 +81,10 @@ BeatsAreTheWhole =
 abbrev pub BeatsAreTheCopy : Type 0
 BeatsAreTheCopy =
     (work : DmaWork) (lanes : ℕ) (store : Store)
-   
     → (IsInRange (Reads (Read work)) (Writes (Read work)) (store_size store)
-      → DoesOne (Read work) store (after_all_beats (Read work) lanes store))
+    → DoesOne (Read work) store (after_all_beats (Read work) lanes store))
     × (IsInRange (Reads (Write work)) (Writes (Write work)) (store_size store)
-      → DoesOne (Write work) store (after_all_beats (Write work) lanes store))
+    → DoesOne (Write work) store (after_all_beats (Write work) lanes store))
 
 -- the next beat of a work, whatever has been done of it, keeps to the work's footprint: in any two stores that have the
 -- footprint and agree on what the work reads it does the same, and only places that the work writes change

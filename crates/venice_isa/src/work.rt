@@ -121,7 +121,7 @@ impl VecWork {
         ensures { IsTrue result
             ↔ (IsFalse self.now.kind.a_scalar → LiesBelow (source_a self.now) cells)
             × (IsTrue (uses_b self.now.kind.op) → IsFalse self.now.kind.b_scalar
-                → LiesBelow (source_b self.now) cells) }
+            → LiesBelow (source_b self.now) cells) }
     {
         self.has_a_below(cells) && self.has_b_below(cells)
     }
