@@ -99,8 +99,8 @@ four_put items place x y z w inside =
     ∙ sym (overwritten_more (set items place x) (place + 1) y (z ∷ w ∷ []) (omega (arith, length-set items place x)))
     ∙ sym (overwritten_more items place x (y ∷ z ∷ w ∷ []) (omega arith))
 
--- an element of a group ends in the cells
-pub element_in : (place count size end i : ℕ) → place + count * size ≤ end → i < count → (place + i * size) + size ≤ end
-element_in place count size end i inside below =
-    let some : (i + 1) * size ≤ count * size = mul-le-mul_right size (omega arith) in
+-- an element of a group ends in it
+pub element_in_row : (k count size : ℕ) → k < count → k * size + size ≤ count * size
+element_in_row k count size below =
+    let some : (k + 1) * size ≤ count * size = mul-le-mul_right size (omega arith) in
     omega arith

@@ -1,9 +1,12 @@
 pub mod Elements
-pub mod FirstItems
+pub mod Parts
 pub mod Operands
 pub mod Places
 pub mod Currents
 pub mod Groups
+pub mod Spelled
+pub mod Flagged
+pub mod Writing
 pub mod Beats
 pub mod Kept
 pub mod Finishing

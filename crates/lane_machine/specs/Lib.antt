@@ -1,3 +1,5 @@
+pub mod Elements
+pub mod Flags
 pub mod Group
 pub mod Operand
 pub mod Current

@@ -30,6 +30,7 @@ pub(crate) struct Current {
 impl Current {
     ghost use Rattle.lane_machine.specs.Current.{IsAt, IsUnderWay, IsBounded, IsNext, CanGo, CanGoToNextRow, progress_of, group_of, gone_on, turned};
     ghost use Rattle.lane_machine.specs.Group.{IsInside};
+    ghost use Rattle.lane_machine.specs.Elements.{wider};
     ghost use Rattle.venice_isa.specs.Beat.{not_begun};
 
     /// A work that has not begun.
@@ -59,7 +60,7 @@ impl Current {
         ensures value { result ≡ group_of work.now self.now }
         ensures in_row { self.now.first + result ≤ work.now.vl }
         ensures some { 0 < result }
-        ensures few { result ≤ 16 }
+        ensures few { result * wider work.now.kind.elem work.now.kind.from ≤ 16 }
     {
         self.group.min(work.vl - self.first)
     }

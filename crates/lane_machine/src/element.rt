@@ -1,95 +1,174 @@
-//! Elements of the scratchpad as numbers of their type.
-ghost use Rattle.std.specs.Prelude.{◌≡◌, ◌+◌, ◌*◌, ◌<◌, ◌≤◌, ◌^◌, ◌+ℤ◌, ◌≤ℤ◌, length, pos};
-ghost use Rattle.ven_base.specs.Elem.{size_of, modulus_of, least_of};
-ghost use Rattle.ven_base.specs.declared.elem.Elem.{Elem};
-ghost use Rattle.ven_base.specs.Wrap.{wrapped};
-ghost use Rattle.spad_store.specs.Cells.{flag_at};
+//! Elements of a group: how their bytes spell numbers of their type.
+ghost use Rattle.std.specs.Prelude.{◌≡◌, ◌+◌, ◌*◌, ◌<◌, ◌≤◌, ◌^◌, [], ◌∷◌, ◌%◌, ◌/◌, slice_index};
+ghost use Rattle.ven_base.specs.Elem.{size_of, IsElement};
 ghost use Rattle.venice_isa.specs.Cell.{overwritten};
-ghost use Rattle.venice_isa.specs.Element.{number_at, spelled};
-ghost use Rattle.lane_machine.specs.Group.{HasFirst};
+ghost use Rattle.venice_isa.specs.Element.{little_endian, low_bytes};
+ghost use Rattle.lane_machine.specs.Elements.{element_bytes, element_in};
 
-use crate::width::{FourBytes, OneByte, TwoBytes, Width};
-use spad_store::Spad;
-use ven_base::{Elem, bits_of};
+use ven_base::{Elem, number_of};
 
-/// The most elements that a beat takes: four lanes of 4 bytes, in elements of a byte.
-pub(crate) const MOST: usize = 16;
+/// The most bytes that a beat takes: four lanes of 4 bytes.
+pub(crate) const MOST_BYTES: usize = 16;
 
-/// Reads the numbers of so many elements, the first of which begins at a place.
-pub(crate) fn read_numbers(
-    cells: &Spad,
-    elem: Elem,
-    place: u32,
-    count: u32,
-    numbers: &mut [i64; MOST],
-)
-    requires few { count ≤ 16 }
-    requires inside { place + count * size_of elem ≤ length cells.now }
-    requires small { length cells.now < 2 ^ 32 }
-    ensures { HasFirst count (λ k. number_at elem cells.now (place + k * size_of elem)) numbers.new }
+/// The bytes of a group of elements; those behind it say nothing.
+pub(crate) type Bytes = [u8; MOST_BYTES];
+
+/// An element type that is known where the code is compiled, so that a loop over elements is
+/// compiled for it.
+pub(crate) trait Element {
+    ghost use Rattle.ven_base.specs.declared.elem.Elem.{Elem as TheElem};
+
+    ghost ELEM: { TheElem };
+
+    const ELEM: Elem;
+}
+
+/// The number of element `k` of a group.
+#[inline(always)]
+pub(crate) fn number(elem: Elem, bytes: &Bytes, k: u32) -> i64
+    requires { (k + 1) * size_of elem ≤ 16 }
+    ensures value { result ≡ element_in elem bytes.now k }
+    ensures in_type { IsElement elem result }
+{
+    number_of(elem, bits(elem, bytes, k))
+}
+
+/// Puts the bits of element `k` of a group, and changes no other byte.
+#[inline(always)]
+pub(crate) fn put(elem: Elem, bytes: &mut Bytes, k: u32, bits: u32)
+    requires { (k + 1) * size_of elem ≤ 16 }
+    ensures { bytes.new ≡ overwritten bytes.old (k * size_of elem) (low_bytes (size_of elem) bits) }
 {
     match elem {
-        Elem::U8 | Elem::I8 => read_wide::<OneByte>(cells, elem, place, count, numbers),
-        Elem::U16 | Elem::I16 => read_wide::<TwoBytes>(cells, elem, place, count, numbers),
-        Elem::U32 | Elem::I32 => read_wide::<FourBytes>(cells, elem, place, count, numbers),
+        Elem::U8 | Elem::I8 => put_one(bytes, k as usize, bits),
+        Elem::U16 | Elem::I16 => put_two(bytes, 2 * k as usize, bits),
+        Elem::U32 | Elem::I32 => put_four(bytes, 4 * k as usize, bits),
     }
 }
 
-/// Reads the numbers of elements of one width.
-fn read_wide<W: Width>(cells: &Spad, elem: Elem, place: u32, count: u32, numbers: &mut [i64; MOST])
-    requires width { W.SIZE ≡ size_of elem }
-    requires few { count ≤ 16 }
-    requires inside { place + count * size_of elem ≤ length cells.now }
-    requires small { length cells.now < 2 ^ 32 }
-    ensures { HasFirst count (λ k. number_at elem cells.now (place + k * size_of elem)) numbers.new }
+/// The bits of element `k`.
+#[inline(always)]
+fn bits(elem: Elem, bytes: &Bytes, k: u32) -> u32
+    requires { (k + 1) * size_of elem ≤ 16 }
+    ensures { result ≡ little_endian (element_bytes elem bytes.now k) }
 {
-    let (end, modulus) = (elem.end(), elem.modulus());
-    let mut at = place;
-    for i in 0..count as usize {
-        numbers[i] = number_of(W::bits(cells, at), end, modulus);
-        at += W::SIZE;
-    }
-}
-
-/// The flags of the first bytes of so many elements, the first of which begins at a place.
-pub(crate) fn flags_at(cells: &Spad, elem: Elem, place: u32, count: u32) -> [bool; MOST]
-    requires few { count ≤ 16 }
-    requires inside { place + count * size_of elem ≤ length cells.now }
-    requires small { length cells.now < 2 ^ 32 }
-    ensures { HasFirst count (λ k. flag_at cells.now (place + k * size_of elem)) result }
-{
-    let size = elem.size();
-    let mut flags = [false; MOST];
-    let mut at = place;
-    for i in 0..count {
-        let end = at + size;
-        flags[i as usize] = cells.flag(at);
-        at = end;
-    }
-    flags
-}
-
-/// Writes the bytes of a number at a place, each with the flag.
-pub(crate) fn put_number(cells: &mut Spad, elem: Elem, place: u32, n: i64, flag: bool)
-    requires inside { place + size_of elem ≤ length cells.old }
-    requires small { length cells.old < 2 ^ 32 }
-    ensures { cells.new ≡ overwritten cells.old place (spelled elem n flag) }
-{
-    let bits = bits_of(elem, n);
     match elem {
-        Elem::U8 | Elem::I8 => OneByte::put(cells, place, bits, flag),
-        Elem::U16 | Elem::I16 => TwoBytes::put(cells, place, bits, flag),
-        Elem::U32 | Elem::I32 => FourBytes::put(cells, place, bits, flag),
+        Elem::U8 | Elem::I8 => one_at(bytes, k as usize),
+        Elem::U16 | Elem::I16 => two_at(bytes, 2 * k as usize),
+        Elem::U32 | Elem::I32 => four_at(bytes, 4 * k as usize),
     }
 }
 
-/// The number that has these bits, of the type whose numbers end before `end` and of which there
-/// are `modulus`.
-fn number_of(bits: u32, end: i64, modulus: i64) -> i64
-    requires { pos 0 ≤ℤ modulus }
-    ensures { (elem : Elem) → end ≡ least_of elem +ℤ pos (modulus_of elem) → modulus ≡ pos (modulus_of elem) → bits < modulus_of elem →
-        result ≡ wrapped elem (pos bits) }
+#[inline(always)]
+fn one_at(bytes: &Bytes, at: usize) -> u32
+    requires { at + 1 ≤ 16 }
+    ensures { result ≡ slice_index bytes.now at }
 {
-    let n = i64::from(bits);
-    if n < end { n } else { n - modulus }
+    u32::from(bytes[at])
+}
+
+#[inline(always)]
+fn two_at(bytes: &Bytes, at: usize) -> u32
+    requires { at + 2 ≤ 16 }
+    ensures value { result ≡ slice_index bytes.now at + 256 * slice_index bytes.now (at + 1) }
+    ensures within { result < 2 ^ 16 }
+{
+    u32::from(bytes[at]) + 256 * u32::from(bytes[at + 1])
+}
+
+#[inline(always)]
+fn four_at(bytes: &Bytes, at: usize) -> u32
+    requires { at + 4 ≤ 16 }
+    ensures { result ≡ slice_index bytes.now at + 256 * (slice_index bytes.now (at + 1)
+        + 256 * (slice_index bytes.now (at + 2) + 256 * slice_index bytes.now (at + 3))) }
+{
+    two_at(bytes, at) + 0x1_0000 * two_at(bytes, at + 2)
+}
+
+#[inline(always)]
+fn put_one(bytes: &mut Bytes, at: usize, bits: u32)
+    requires { at + 1 ≤ 16 }
+    ensures { bytes.new ≡ overwritten bytes.old at (low_bytes 1 bits) }
+{
+    bytes[at] = (bits % 256) as u8;
+}
+
+#[inline(always)]
+fn put_two(bytes: &mut Bytes, at: usize, bits: u32)
+    requires { at + 2 ≤ 16 }
+    ensures { bytes.new ≡ overwritten bytes.old at (low_bytes 2 bits) }
+{
+    bytes[at] = (bits % 256) as u8;
+    bytes[at + 1] = (bits / 256 % 256) as u8;
+}
+
+#[inline(always)]
+fn put_four(bytes: &mut Bytes, at: usize, bits: u32)
+    requires { at + 4 ≤ 16 }
+    ensures { bytes.new ≡ overwritten bytes.old at (low_bytes 4 bits) }
+{
+    bytes[at] = (bits % 256) as u8;
+    bytes[at + 1] = (bits / 256 % 256) as u8;
+    bytes[at + 2] = (bits / 256 / 256 % 256) as u8;
+    bytes[at + 3] = (bits / 256 / 256 / 256 % 256) as u8;
+}
+
+pub(crate) struct TypeU8;
+
+pub(crate) struct TypeI8;
+
+pub(crate) struct TypeU16;
+
+pub(crate) struct TypeI16;
+
+pub(crate) struct TypeU32;
+
+pub(crate) struct TypeI32;
+
+impl Element for TypeU8 {
+    ghost use Rattle.ven_base.specs.declared.elem.Elem.TheVariants.{U8};
+
+    ghost ELEM = { U8 };
+
+    const ELEM: Elem = Elem::U8;
+}
+
+impl Element for TypeI8 {
+    ghost use Rattle.ven_base.specs.declared.elem.Elem.TheVariants.{I8};
+
+    ghost ELEM = { I8 };
+
+    const ELEM: Elem = Elem::I8;
+}
+
+impl Element for TypeU16 {
+    ghost use Rattle.ven_base.specs.declared.elem.Elem.TheVariants.{U16};
+
+    ghost ELEM = { U16 };
+
+    const ELEM: Elem = Elem::U16;
+}
+
+impl Element for TypeI16 {
+    ghost use Rattle.ven_base.specs.declared.elem.Elem.TheVariants.{I16};
+
+    ghost ELEM = { I16 };
+
+    const ELEM: Elem = Elem::I16;
+}
+
+impl Element for TypeU32 {
+    ghost use Rattle.ven_base.specs.declared.elem.Elem.TheVariants.{U32};
+
+    ghost ELEM = { U32 };
+
+    const ELEM: Elem = Elem::U32;
+}
+
+impl Element for TypeI32 {
+    ghost use Rattle.ven_base.specs.declared.elem.Elem.TheVariants.{I32};
+
+    ghost ELEM = { I32 };
+
+    const ELEM: Elem = Elem::I32;
 }

@@ -1,21 +1,29 @@
 //! What a beat does with the next elements of a row. All sources are read before the first write.
-ghost use Rattle.std.specs.Prelude.{◌≡◌, ◌+◌, ◌<◌, ◌≤◌, ◌^◌, ℕ, pos, length, IsTrue, IsFalse, if◌then◌else◌};
+ghost use Rattle.std.specs.Prelude.{◌≡◌, ◌+◌, ◌*◌, ◌/◌, ◌<◌, ◌≤◌, ◌^◌, ℕ, false, pos, length, take, slice_index_or, IsTrue, IsFalse, if◌then◌else◌};
 ghost use Rattle.ven_base.specs.Elem.{size_of};
+ghost use Rattle.spad_store.specs.Packed.{has_bit};
+ghost use Rattle.spad_store.specs.Cells.{with_bytes};
 ghost use Rattle.venice_isa.specs.Cell.{overwritten};
+ghost use Rattle.venice_isa.specs.Element.{spelled};
 ghost use Rattle.venice_isa.specs.Region.{place_in};
 ghost use Rattle.venice_isa.specs.Footprint.{destination};
 ghost use Rattle.venice_isa.specs.Whole.{sum_of_results, spelled_sum, HasCounts};
 ghost use Rattle.venice_isa.specs.Mode.{is_conditional};
 ghost use Rattle.venice_isa.specs.Beat.{new_elements, vector_beat, lane_group, lane_group_at, sum_after};
-ghost use Rattle.lane_machine.specs.Group.{IsInside, HasFirst, results_from, is_written_from};
+ghost use Rattle.lane_machine.specs.Elements.{wider, sum_of_elements, HasSpelled};
+ghost use Rattle.lane_machine.specs.Group.{IsInside, results_from};
 ghost use Rattle.lane_machine.specs.Current.{IsAt, IsPlaced, IsBounded, group_of, progress_of};
 
 use crate::current::Current;
-use crate::element::{MOST, put_number};
-use crate::width::{FourBytes, OneByte, TwoBytes, Width};
+use crate::element::{
+    Bytes, Element, MOST_BYTES, TypeI8, TypeI16, TypeI32, TypeU8, TypeU16, TypeU32, number, put,
+};
+use crate::flags::{flags_for, whole_elements};
+use crate::kernel::answers;
+use crate::operand::bytes_at;
 use spad_store::Spad;
 use ven_base::{Elem, bits_of, wrap};
-use venice_isa::{VecWork, result_of, sets_flag};
+use venice_isa::VecWork;
 
 /// Does the next beat of a work, which takes `count` elements. Gives the row's sum with their
 /// results, which is 0 without accumulate.
@@ -32,165 +40,145 @@ pub(crate) fn beat(cells: &mut Spad, work: &VecWork, current: &Current, count: u
         result ≡ (if work.now.kind.acc then sum_after work.now (progress_of current.now) cells.old (lane_group_at work.now lanes (progress_of current.now)) else pos 0) }
     ensures bounded { IsBounded (current.now.first + count) result }
 {
+    let results = work_out(cells, work, current, count);
     if work.kind.acc {
-        let sum = current.sum + i128::from(sum_of(cells, work, current, count));
+        let sum = current.sum + i128::from(sum_of(work.kind.elem, &results, count));
         if work.vl - current.first == count {
             put_sum(cells, work, current, sum);
         }
         return sum;
     }
     if work.kind.op.is_conditional() {
-        move_flagged(cells, work, current, count);
+        move_flagged(cells, work, current, count, &results);
     } else {
-        let mut results = [0; MOST];
-        work_out(cells, work, current, count, &mut results);
         put_all(cells, work, current, count, &results);
     }
     0
 }
 
 /// Works out the results for the next `count` elements, from the cells as they are.
-fn work_out(cells: &Spad, work: &VecWork, current: &Current, count: u32, results: &mut [i64; MOST])
+fn work_out(cells: &Spad, work: &VecWork, current: &Current, count: u32) -> Bytes
     requires placed { IsPlaced work.now current.now }
     requires in_row { current.now.first + count ≤ work.now.vl }
     requires some { 0 < count }
-    requires few { count ≤ 16 }
+    requires few { count * wider work.now.kind.elem work.now.kind.from ≤ 16 }
     requires inside { IsInside work.now (length cells.now) }
     requires small { length cells.now < 2 ^ 32 }
-    ensures { HasFirst count (results_from work.now cells.now current.now.row current.now.first) results.new }
+    ensures { HasSpelled work.now.kind.elem count (results_from work.now cells.now current.now.row current.now.first) result }
 {
     let kind = work.kind;
-    let mut numbers = [0; MOST];
-    current.a.read(cells, kind.from, count, results);
-    current.b.read(cells, kind.elem, count, &mut numbers);
-    for i in 0..count as usize {
-        results[i] = result_of(kind, results[i], numbers[i]);
+    let a = current.a.load(cells, kind.from, count);
+    let b = current.b.load(cells, kind.elem, count);
+    answers(kind, &a, &b)
+}
+
+/// The sum of so many first elements of a group.
+fn sum_of(elem: Elem, results: &Bytes, count: u32) -> i64
+    requires { count * size_of elem ≤ 16 }
+    ensures value { result ≡ sum_of_elements elem results.now count }
+    ensures bounded { IsBounded count result }
+{
+    match elem {
+        Elem::U8 => sum_in::<TypeU8>(results, count),
+        Elem::I8 => sum_in::<TypeI8>(results, count),
+        Elem::U16 => sum_in::<TypeU16>(results, count),
+        Elem::I16 => sum_in::<TypeI16>(results, count),
+        Elem::U32 => sum_in::<TypeU32>(results, count),
+        Elem::I32 => sum_in::<TypeI32>(results, count),
     }
 }
 
-/// Moves A's elements to those of the next elements where the flag of B's first byte is set.
-fn move_flagged(cells: &mut Spad, work: &VecWork, current: &Current, count: u32)
-    requires conditional { IsTrue (is_conditional work.now.kind.op) }
-    requires placed { IsPlaced work.now current.now }
-    requires in_row { current.now.first + count ≤ work.now.vl }
-    requires some { 0 < count }
-    requires few { count ≤ 16 }
-    requires inside { IsInside work.now (length cells.old) }
-    requires small { length cells.old < 2 ^ 32 }
-    ensures { cells.new ≡ overwritten cells.old (place_in (destination work.now) current.now.row current.now.first)
-        (new_elements work.now cells.old current.now.row current.now.first count) }
+/// The same of one type.
+fn sum_in<E: Element>(results: &Bytes, count: u32) -> i64
+    requires { count * size_of E.ELEM ≤ 16 }
+    ensures value { result ≡ sum_of_elements E.ELEM results.now count }
+    ensures bounded { IsBounded count result }
 {
-    let mut numbers = [0; MOST];
-    current.a.read(cells, work.kind.from, count, &mut numbers);
-    let flags = current.b.flags(cells, work.kind.elem, count);
-    put_results(cells, work, current, count, &numbers, &flags);
+    let mut sum = 0;
+    for k in 0..count {
+        sum += number(E::ELEM, results, k);
+    }
+    sum
 }
 
 /// Writes results, with their flags, into the next elements of the destination.
-fn put_all(cells: &mut Spad, work: &VecWork, current: &Current, count: u32, results: &[i64; MOST])
+fn put_all(cells: &mut Spad, work: &VecWork, current: &Current, count: u32, results: &Bytes)
     requires no_sum { IsFalse work.now.kind.acc }
     requires plain { IsFalse (is_conditional work.now.kind.op) }
     requires placed { IsPlaced work.now current.now }
     requires in_row { current.now.first + count ≤ work.now.vl }
     requires some { 0 < count }
-    requires few { count ≤ 16 }
+    requires few { count * wider work.now.kind.elem work.now.kind.from ≤ 16 }
     requires inside { IsInside work.now (length cells.old) }
     requires small { length cells.old < 2 ^ 32 }
-    requires results { HasFirst count (results_from work.now cells.old current.now.row current.now.first) results.now }
-    ensures cells { cells.new ≡ overwritten cells.old (place_in (destination work.now) current.now.row current.now.first)
+    requires results { HasSpelled work.now.kind.elem count (results_from work.now cells.old current.now.row current.now.first) results.now }
+    ensures { cells.new ≡ overwritten cells.old (place_in (destination work.now) current.now.row current.now.first)
         (new_elements work.now cells.old current.now.row current.now.first count) }
-    ensures same_length { length cells.new ≡ length cells.old }
-{
-    put_results(cells, work, current, count, results, &[true; MOST]);
-}
-
-/// Writes results, with their flags, into those of the next elements of the destination that are
-/// written.
-fn put_results(
-    cells: &mut Spad,
-    work: &VecWork,
-    current: &Current,
-    count: u32,
-    results: &[i64; MOST],
-    written: &[bool; MOST],
-)
-    requires no_sum { IsFalse work.now.kind.acc }
-    requires placed { IsPlaced work.now current.now }
-    requires in_row { current.now.first + count ≤ work.now.vl }
-    requires some { 0 < count }
-    requires few { count ≤ 16 }
-    requires inside { IsInside work.now (length cells.old) }
-    requires small { length cells.old < 2 ^ 32 }
-    requires results { HasFirst count (results_from work.now cells.old current.now.row current.now.first) results.now }
-    requires written { HasFirst count (is_written_from work.now cells.old current.now.row current.now.first) written.now }
-    ensures cells { cells.new ≡ overwritten cells.old (place_in (destination work.now) current.now.row current.now.first)
-        (new_elements work.now cells.old current.now.row current.now.first count) }
-    ensures same_length { length cells.new ≡ length cells.old }
-{
-    match work.kind.elem {
-        Elem::U8 | Elem::I8 => put_wide::<OneByte>(cells, work, current, count, results, written),
-        Elem::U16 | Elem::I16 => {
-            put_wide::<TwoBytes>(cells, work, current, count, results, written);
-        }
-        Elem::U32 | Elem::I32 => {
-            put_wide::<FourBytes>(cells, work, current, count, results, written);
-        }
-    }
-}
-
-/// Writes results of one width.
-fn put_wide<W: Width>(
-    cells: &mut Spad,
-    work: &VecWork,
-    current: &Current,
-    count: u32,
-    results: &[i64; MOST],
-    written: &[bool; MOST],
-)
-    requires width { W.SIZE ≡ size_of work.now.kind.elem }
-    requires no_sum { IsFalse work.now.kind.acc }
-    requires placed { IsPlaced work.now current.now }
-    requires in_row { current.now.first + count ≤ work.now.vl }
-    requires some { 0 < count }
-    requires few { count ≤ 16 }
-    requires inside { IsInside work.now (length cells.old) }
-    requires small { length cells.old < 2 ^ 32 }
-    requires results { HasFirst count (results_from work.now cells.old current.now.row current.now.first) results.now }
-    requires written { HasFirst count (is_written_from work.now cells.old current.now.row current.now.first) written.now }
-    ensures cells { cells.new ≡ overwritten cells.old (place_in (destination work.now) current.now.row current.now.first)
-        (new_elements work.now cells.old current.now.row current.now.first count) }
-    ensures same_length { length cells.new ≡ length cells.old }
 {
     let kind = work.kind;
-    let mut place = current.dst.next as u32;
-    for i in 0..count as usize {
-        if written[i] {
-            let number = results[i];
-            let flag = sets_flag(kind, number);
-            W::put(cells, place, bits_of(kind.elem, number), flag);
-        }
-        place += W::SIZE;
+    let place = current.dst.next as u32;
+    let bytes = count * kind.elem.size();
+    put_first(cells, place, results, bytes);
+    if kind.op.is_comparison() {
+        cells.put_flags(place, bytes, flags_for(kind, results));
     }
 }
 
-/// The sum of the results for the next `count` elements.
-fn sum_of(cells: &Spad, work: &VecWork, current: &Current, count: u32) -> i64
+/// Puts the first bytes of a group into cells, and clears their flags.
+#[inline]
+fn put_first(cells: &mut Spad, place: u32, bytes: &Bytes, count: u32)
+    requires few { count ≤ 16 }
+    requires inside { place + count ≤ length cells.old }
+    ensures cells { cells.new ≡ with_bytes cells.old place (take count bytes.now) }
+    ensures same_length { length cells.new ≡ length cells.old }
+{
+    if count as usize == MOST_BYTES {
+        cells.put_bytes(place, bytes);
+    } else {
+        cells.put_bytes(place, &bytes[..count as usize]);
+    }
+}
+
+/// Moves A's elements, which `results` has, to those of the next elements where the flag of B's
+/// first byte is set; the others stay as they are.
+fn move_flagged(cells: &mut Spad, work: &VecWork, current: &Current, count: u32, results: &Bytes)
+    requires no_sum { IsFalse work.now.kind.acc }
+    requires conditional { IsTrue (is_conditional work.now.kind.op) }
     requires placed { IsPlaced work.now current.now }
     requires in_row { current.now.first + count ≤ work.now.vl }
     requires some { 0 < count }
-    requires few { count ≤ 16 }
-    requires inside { IsInside work.now (length cells.now) }
-    requires small { length cells.now < 2 ^ 32 }
-    ensures value { result ≡ sum_of_results work.now cells.now current.now.row current.now.first count }
-    ensures bounded { IsBounded count result }
+    requires few { count * wider work.now.kind.elem work.now.kind.from ≤ 16 }
+    requires inside { IsInside work.now (length cells.old) }
+    requires small { length cells.old < 2 ^ 32 }
+    requires results { HasSpelled work.now.kind.elem count (results_from work.now cells.old current.now.row current.now.first) results.now }
+    ensures { cells.new ≡ overwritten cells.old (place_in (destination work.now) current.now.row current.now.first)
+        (new_elements work.now cells.old current.now.row current.now.first count) }
 {
-    let mut results = [0; MOST];
-    work_out(cells, work, current, count, &mut results);
-    let mut sum = 0;
-    for i in 0..count as usize {
-        sum += results[i];
+    let elem = work.kind.elem;
+    let place = current.dst.next as u32;
+    let bytes = count * elem.size();
+    let moved = whole_elements(elem, current.b.flags(cells, elem, count));
+    let old = bytes_at(cells, place, bytes);
+    let flags = cells.get_flags(place, bytes);
+    put_first(cells, place, &chosen(moved, results, &old), bytes);
+    cells.put_flags(place, bytes, flags & !moved);
+}
+
+/// Byte by byte the new one where its bit is set, and the old one where it isn't.
+fn chosen(moved: u64, new: &Bytes, old: &Bytes) -> Bytes
+    ensures long { length result ≡ 16 }
+    ensures each { (j : ℕ) → j < 16 → slice_index_or result j 0
+        ≡ (if has_bit moved j then slice_index_or new.now j 0 else slice_index_or old.now j 0) }
+{
+    let mut bytes = *old;
+    for j in 0..MOST_BYTES {
+        bytes[j] = if (moved >> j) & 1 == 1 {
+            new[j]
+        } else {
+            old[j]
+        };
     }
-    sum
+    bytes
 }
 
 /// Writes a row's sum, which wraps and clears its flags, into the row's element.
@@ -202,6 +190,16 @@ fn put_sum(cells: &mut Spad, work: &VecWork, current: &Current, sum: i128)
     requires small { length cells.old < 2 ^ 32 }
     ensures { cells.new ≡ overwritten cells.old (place_in (destination work.now) current.now.row 0) (spelled_sum work.now sum) }
 {
-    let number = wrap(work.kind.elem, sum);
-    put_number(cells, work.kind.elem, current.dst.row as u32, number, false);
+    let elem = work.kind.elem;
+    put_number(cells, elem, current.dst.row as u32, wrap(elem, sum));
+}
+
+/// Puts the bytes of a number into cells, and clears their flags.
+fn put_number(cells: &mut Spad, elem: Elem, place: u32, n: i64)
+    requires { place + size_of elem ≤ length cells.old }
+    ensures { cells.new ≡ overwritten cells.old place (spelled elem n false) }
+{
+    let mut bytes = [0; MOST_BYTES];
+    put(elem, &mut bytes, 0, bits_of(elem, n));
+    put_first(cells, place, &bytes, elem.size());
 }

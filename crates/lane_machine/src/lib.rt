@@ -9,10 +9,11 @@
 
 mod current;
 mod element;
+mod flags;
 mod group;
+mod kernel;
 mod lanes;
 mod operand;
-mod width;
 
 pub use lanes::Lanes;
 

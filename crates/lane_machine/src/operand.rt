@@ -1,9 +1,15 @@
 //! Where the numbers of A and of B come from.
-ghost use Rattle.std.specs.Prelude.{◌≡◌, ◌<◌, ◌≤◌, ◌^◌, length};
+ghost use Rattle.std.specs.Prelude.{◌≡◌, ◌+◌, ◌*◌, ◌/◌, ◌<◌, ◌≤◌, ◌^◌, ℕ, length, take};
+ghost use Rattle.ven_base.specs.Elem.{size_of, IsElement};
+ghost use Rattle.spad_store.specs.Cells.{bytes_from};
+ghost use Rattle.spad_store.specs.Packed.{has_bit};
+ghost use Rattle.lane_machine.specs.Elements.{HasNumbers, HasSpelled};
 
-use crate::element::{MOST, flags_at, read_numbers};
+use crate::element::{
+    Bytes, Element, MOST_BYTES, TypeI8, TypeI16, TypeI32, TypeU8, TypeU16, TypeU32, put,
+};
 use spad_store::Spad;
-use ven_base::Elem;
+use ven_base::{Elem, bits_of};
 use venice_isa::Walk;
 
 /// An operand: one number for all elements, of a scalar or where the operation takes no B, or the
@@ -16,33 +22,32 @@ pub(crate) enum Operand {
 
 impl Operand {
     ghost use Rattle.lane_machine.specs.Operand.{EndsBelow, CanGoOn, CanTurn, number_in, flag_in, a_group_on, at_next_row};
-    ghost use Rattle.lane_machine.specs.Group.{HasFirst};
 
-    /// Reads the numbers for the next `count` elements.
-    pub(crate) fn read(&self, cells: &Spad, elem: Elem, count: u32, numbers: &mut [i64; MOST])
-        requires few { count ≤ 16 }
+    /// The bytes of the next `count` elements.
+    pub(crate) fn load(&self, cells: &Spad, elem: Elem, count: u32) -> Bytes
+        requires few { count * size_of elem ≤ 16 }
+        requires in_type { IsElement elem (number_in elem self.now cells.now 0) }
         requires inside { EndsBelow elem self.now count (length cells.now) }
         requires small { length cells.now < 2 ^ 32 }
-        ensures { HasFirst count (number_in elem self.now cells.now) numbers.new }
+        ensures { HasNumbers elem count (number_in elem self.now cells.now) result }
     {
         match self {
-            Operand::Number(n) => *numbers = [*n; MOST],
-            Operand::Elements(walk) => {
-                read_numbers(cells, elem, walk.next as u32, count, numbers);
-            }
+            Operand::Number(n) => repeated(elem, *n),
+            Operand::Elements(walk) => bytes_at(cells, walk.next as u32, count * elem.size()),
         }
     }
 
-    /// The flags of the first bytes of the next `count` elements. A number has no flag that is set.
-    pub(crate) fn flags(&self, cells: &Spad, elem: Elem, count: u32) -> [bool; MOST]
-        requires few { count ≤ 16 }
+    /// The flags of the first bytes of the next `count` elements as bits, at the places of these
+    /// bytes. A number has no flag that is set.
+    pub(crate) fn flags(&self, cells: &Spad, elem: Elem, count: u32) -> u64
+        requires few { count * size_of elem ≤ 16 }
         requires inside { EndsBelow elem self.now count (length cells.now) }
         requires small { length cells.now < 2 ^ 32 }
-        ensures { HasFirst count (flag_in elem self.now cells.now) result }
+        ensures { (k : ℕ) → k < count → has_bit result (k * size_of elem) ≡ flag_in elem self.now cells.now k }
     {
         match self {
-            Operand::Number(_) => [false; MOST],
-            Operand::Elements(walk) => flags_at(cells, elem, walk.next as u32, count),
+            Operand::Number(_) => 0,
+            Operand::Elements(walk) => cells.get_flags(walk.next as u32, count * elem.size()),
         }
     }
 
@@ -65,4 +70,47 @@ impl Operand {
             walk.next_row();
         }
     }
+}
+
+/// The bytes of so many cells.
+#[inline]
+pub(crate) fn bytes_at(cells: &Spad, place: u32, count: u32) -> Bytes
+    requires few { count ≤ 16 }
+    requires inside { place + count ≤ length cells.now }
+    ensures long { length result ≡ 16 }
+    ensures bytes { take count result ≡ bytes_from cells.now place count }
+{
+    let mut bytes = [0; MOST_BYTES];
+    if count as usize == MOST_BYTES {
+        cells.get_bytes(place, &mut bytes);
+    } else {
+        cells.get_bytes(place, &mut bytes[..count as usize]);
+    }
+    bytes
+}
+
+/// One number for all elements of a group.
+fn repeated(elem: Elem, n: i64) -> Bytes
+    ensures { HasSpelled elem (16 / size_of elem) (λ _. n) result }
+{
+    match elem {
+        Elem::U8 => repeated_as::<TypeU8>(n),
+        Elem::I8 => repeated_as::<TypeI8>(n),
+        Elem::U16 => repeated_as::<TypeU16>(n),
+        Elem::I16 => repeated_as::<TypeI16>(n),
+        Elem::U32 => repeated_as::<TypeU32>(n),
+        Elem::I32 => repeated_as::<TypeI32>(n),
+    }
+}
+
+/// The same of one type.
+fn repeated_as<E: Element>(n: i64) -> Bytes
+    ensures { HasSpelled E.ELEM (16 / size_of E.ELEM) (λ _. n) result }
+{
+    let elem = E::ELEM;
+    let mut bytes = [0; MOST_BYTES];
+    for k in 0..16 / elem.size() {
+        put(elem, &mut bytes, k, bits_of(elem, n));
+    }
+    bytes
 }

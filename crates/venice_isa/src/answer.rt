@@ -18,19 +18,22 @@ pub fn result_of(kind: VecKind, a: i64, b: i64) -> i64
     ensures value { result ≡ result_of kind a b }
     ensures in_type { IsElement kind.elem result }
 {
-    answer(kind.op, kind.elem, a, b)
+    answer_of(kind.op, kind.elem, a, b)
 }
 
 /// Whether the flags of an element are set with this result, without accumulate: those of a comparison that answers 1
 /// (docs/MACHINE.md, "Flags").
+#[inline]
 pub fn sets_flag(kind: VecKind, result_value: i64) -> bool
     ensures { result ≡ flag_for kind result_value }
 {
     kind.op.is_comparison() && result_value == 1
 }
 
-/// The operation's answer at two numbers of one type, which of a cast A's need not be.
-fn answer(op: VecOp, elem: Elem, a: i64, b: i64) -> i64
+/// The operation's answer at `a` and `b`, two numbers of the type `elem`, which of a cast `a` need not be. Where the
+/// operation and the type are known when it is compiled, nothing is left of the choice between them.
+#[inline]
+pub fn answer_of(op: VecOp, elem: Elem, a: i64, b: i64) -> i64
     requires a_in_type { op ≢ Cast → IsElement elem a }
     requires b_in_type { IsElement elem b }
     ensures { result ≡ answer_of op elem a b }

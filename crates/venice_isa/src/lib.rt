@@ -23,7 +23,7 @@ mod region;
 mod walk;
 mod work;
 
-pub use answer::{result_of, sets_flag};
+pub use answer::{answer_of, result_of, sets_flag};
 pub use code::Code;
 pub use encoding::{InstrFault, decode, decode_in, encode};
 pub use host::{Deed, HostState};

@@ -12,8 +12,8 @@ overflow_cast-current c =
     let end = sum_end work (length c.args.cells.now) c.requires.inside current.row current.first placed.in_rows placed.in_row c.requires.with_sum in
     omega (arith, end, walk_row (destination work) current.group current.row current.first current.dst placed.dst_is, c.requires.small)
 
-pub put_number-requires-clause-inside : goal.put_number-requires-clause-inside
-put_number-requires-clause-inside c =
+pub put_number-requires : goal.put_number-requires
+put_number-requires c =
     let work = c.args.work.now in
     let current = c.args.current.now in
     let placed = c.requires.placed in

@@ -10,8 +10,8 @@ pub returns-clause-value : goal.returns-clause-value
 returns-clause-value c =
     let kind = c.args.kind in
     let passed : ℤ = cast_signed w64 (cast_unsigned w64 c.args.b) in
-    to_z-of_z w64 c.answer.result (record { sfits = c.answer.type_inv })
-    ∙ c.answer.ensures
+    to_z-of_z w64 c.answer_of.result (record { sfits = c.answer_of.type_inv })
+    ∙ c.answer_of.ensures
     ∙ ap (λ a. answer_of kind.op kind.elem a passed) (to_z-of_z w64 c.args.a c.ranges.a)
     ∙ ap (λ b. answer_of kind.op kind.elem c.args.a b) (to_z-of_z w64 c.args.b c.ranges.b)
     ∙ sym (result_is kind c.args.a c.args.b kind.op refl)
