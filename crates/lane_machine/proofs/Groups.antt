@@ -25,7 +25,6 @@ use Rattle.venice_isa.proofs.Beats.{element_length, elements_length, sum_on}
 use Rattle.venice_isa.proofs.Results.{result_in_type}
 use Rattle.ven_base.proofs.Wrapped.{IsElement-wrapped}
 use Rattle.lane_machine.specs.Current.{IsBounded}
-
 use Rattle.lane_machine.proofs.Elements.{overwritten-append, overwritten_by_itself}
 
 -- ---- results

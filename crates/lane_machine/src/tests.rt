@@ -1,5 +1,5 @@
 //! Instructions run on a small scratchpad: A stands at cell 0, B at 16 and the destination at 32.
-ghost use Rattle.std.specs.Prelude.{◌≡◌, ◌↔◌, ◌+◌, ◌<◌, ◌≤◌, [], ◌∷◌, ◌++◌, IsTrue, IsErr, OnOk, All, length, slice_get};
+ghost use Rattle.std.specs.Prelude.{◌≡◌, ◌↔◌, ◌+◌, ◌<◌, ◌≤◌, [], ◌∷◌, ◌++◌, IsTrue, IfOk, IsErr, OnOk, All, length, slice_get};
 ghost use Rattle.ven_base.specs.Store.{store_of, store_size, IsInRange};
 ghost use Rattle.ven_base.specs.Job.{new_job, works_of};
 ghost use Rattle.venice_isa.specs.Whole.{HasCounts};
@@ -9,8 +9,8 @@ use crate::Lanes;
 use spad_store::{MainMem, Spad, Unit};
 use std::alloc::{AllocError, Global};
 use std::test::Fail;
-use ven_base::Elem;
-use venice_isa::{VecKind, VecOp, VecWork};
+use ven_base::{Elem, number_of, wrap};
+use venice_isa::{VecKind, VecOp, VecWork, result_of, sets_flag};
 
 /// Four cells.
 type Four = [(u8, bool); 4];
@@ -446,5 +446,191 @@ fn nothing_beats_in_an_empty_queue(rt: HostRuntime) -> Result<(), Fail> {
     put(&mut spad, 0, plain([1, 2, 3, 4]));
     assert!(rt; !unit.beat(&mut spad, &mut memory));
     assert_eq!(rt; four(&spad, 0), plain([1, 2, 3, 4]));
+    Ok(())
+}
+
+// ---- every operation and type, against the plain rule
+
+const OPERATIONS: [VecOp; 20] = [
+    VecOp::Mov,
+    VecOp::Cast,
+    VecOp::Add,
+    VecOp::Sub,
+    VecOp::Mul,
+    VecOp::And,
+    VecOp::Or,
+    VecOp::Xor,
+    VecOp::Shl,
+    VecOp::Shr,
+    VecOp::Min,
+    VecOp::Max,
+    VecOp::Abs,
+    VecOp::Eq,
+    VecOp::Ne,
+    VecOp::Lt,
+    VecOp::Le,
+    VecOp::Cmov,
+    VecOp::Sadd,
+    VecOp::Ssub,
+];
+
+const TYPES: [Elem; 6] = [
+    Elem::U8,
+    Elem::I8,
+    Elem::U16,
+    Elem::I16,
+    Elem::U32,
+    Elem::I32,
+];
+
+/// A is a scalar, B is one, and the results are added.
+const MODES: [(bool, bool, bool); 4] = [
+    (false, false, false),
+    (true, false, false),
+    (false, true, false),
+    (false, false, true),
+];
+
+/// Cells of a scratchpad of an odd size, which this number decides: A at 1, B at 201 and the destination at 401.
+fn scattered(alloc: Global, seed: u32) -> Result<Spad, AllocError>
+    ensures { IfOk result (λ spad. length spad ≡ 601) }
+{
+    let mut spad = Spad::new(alloc, 601)?;
+    let mut state = seed;
+    for at in 0..601 {
+        state = state.wrapping_mul(1_664_525).wrapping_add(1_013_904_223);
+        spad.put(at, state.to_le_bytes()[3], state % 0x2_0000 < 0x1_0000);
+    }
+    Ok(spad)
+}
+
+/// The number of the element at a place, or 0 where it doesn't lie in the cells.
+fn number_at(spad: &Spad, elem: Elem, at: u32) -> i64 {
+    if 601 <= spad.len() && at < 597 {
+        let bytes = [
+            spad.byte(at),
+            spad.byte(at + 1),
+            spad.byte(at + 2),
+            spad.byte(at + 3),
+        ];
+        number_of(elem, u32::from_le_bytes(bytes))
+    } else {
+        0
+    }
+}
+
+/// The flags of the element at a place.
+fn flags_at(spad: &Spad, elem: Elem, at: u32) -> u64 {
+    if 601 <= spad.len() && at < 597 {
+        spad.get_flags(at, elem.size())
+    } else {
+        0
+    }
+}
+
+/// Where an element of a row stands, from the place of the first one on.
+fn place(first: u32, row: u32, column: u32, elem: Elem) -> u32 {
+    first
+        .wrapping_add(row.wrapping_mul(90))
+        .wrapping_add(column.wrapping_mul(elem.size()))
+}
+
+/// The instruction's answer for an element, from the cells before it.
+fn answer(before: &Spad, work: &VecWork, row: u32, column: u32) -> i64 {
+    let kind = work.kind;
+    let a = if kind.a_scalar {
+        wrap(kind.from, i128::from(work.a))
+    } else {
+        number_at(before, kind.from, place(work.a, row, column, kind.from))
+    };
+    let b = if kind.b_scalar {
+        wrap(kind.elem, i128::from(work.b))
+    } else {
+        number_at(before, kind.elem, place(work.b, row, column, kind.elem))
+    };
+    if kind.from.contains(a) && kind.elem.contains(b) {
+        result_of(kind, a, b)
+    } else {
+        0
+    }
+}
+
+/// Whether an element of the destination has what the instruction gives it.
+fn is_answered(before: &Spad, after: &Spad, work: &VecWork, row: u32, column: u32) -> bool {
+    let kind = work.kind;
+    let elem = kind.elem;
+    let at = place(work.dst, row, column, elem);
+    let there = (number_at(after, elem, at), flags_at(after, elem, at));
+    let b = place(work.b, row, column, elem);
+    if kind.op.is_conditional() && flags_at(before, elem, b) % 2 == 0 {
+        return there == (number_at(before, elem, at), flags_at(before, elem, at));
+    }
+    let n = answer(before, work, row, column);
+    let all = flags_at(after, elem, at) | !0 << elem.size();
+    if sets_flag(kind, n) {
+        there.0 == n && all == u64::MAX
+    } else {
+        there == (n, 0)
+    }
+}
+
+/// Whether an instruction leaves on so many lanes what it gives each element by itself.
+fn is_right(alloc: Global, kind: VecKind, lanes: u32, seed: u32) -> Result<bool, AllocError>
+    requires some_lanes { 0 < lanes }
+    requires few_lanes { lanes ≤ 4 }
+{
+    let work = VecWork {
+        kind,
+        vl: 19,
+        rows: 2,
+        dst: 401,
+        a: if kind.a_scalar { seed } else { 1 },
+        b: if kind.b_scalar { seed } else { 201 },
+        dst_step: 90,
+        a_step: 90,
+        b_step: 90,
+    };
+    let before = scattered(alloc, seed)?;
+    let mut after = scattered(alloc, seed)?;
+    if !lies_below(&work, 601) {
+        return Ok(false);
+    }
+    run(alloc, lanes, work, &mut after)?;
+    let mut right = true;
+    for row in 0..2 {
+        let mut sum = 0i128;
+        for column in 0..19 {
+            if kind.acc {
+                sum = sum.wrapping_add(i128::from(answer(&before, &work, row, column)));
+            } else {
+                right &= is_answered(&before, &after, &work, row, column);
+            }
+        }
+        if kind.acc {
+            let at = place(work.dst, row, 0, kind.elem);
+            let there = (number_at(&after, kind.elem, at), flags_at(&after, kind.elem, at));
+            right &= there == (wrap(kind.elem, sum), 0);
+        }
+    }
+    Ok(right)
+}
+
+#[test]
+fn every_operation_and_type_answers_as_one_element_by_itself(rt: HostRuntime) -> Result<(), Fail> {
+    for op in OPERATIONS {
+        for elem in TYPES {
+            for from in TYPES {
+                for (a_scalar, b_scalar, acc) in MODES {
+                    let Some(kind) = VecKind::new(op, elem, from, a_scalar, b_scalar, acc) else {
+                        continue;
+                    };
+                    for lanes in 1..5 {
+                        let right = is_right(rt.alloc(), kind, lanes, 7 + lanes)?;
+                        assert!(rt; right, "{op:?} {elem:?} {from:?} on {lanes} lanes");
+                    }
+                }
+            }
+        }
+    }
     Ok(())
 }
