@@ -608,7 +608,10 @@ fn is_right(alloc: Global, kind: VecKind, lanes: u32, seed: u32) -> Result<bool,
         }
         if kind.acc {
             let at = place(work.dst, row, 0, kind.elem);
-            let there = (number_at(&after, kind.elem, at), flags_at(&after, kind.elem, at));
+            let there = (
+                number_at(&after, kind.elem, at),
+                flags_at(&after, kind.elem, at),
+            );
             right &= there == (wrap(kind.elem, sum), 0);
         }
     }
