@@ -1,0 +1,10 @@
+pub mod Labels
+pub mod Sums
+pub mod Tilings
+pub mod Made
+pub mod Values
+pub mod Nodes
+pub mod Operands
+pub mod Turns
+pub mod TurnLabels
+pub mod Each

@@ -1,0 +1,13 @@
+pub mod Tree
+pub mod Normal
+pub mod Label
+pub mod Pass
+pub mod Need
+pub mod Tile
+pub mod Buffers
+pub mod Sound
+pub mod Shown
+pub mod Laws
+pub mod Numbers
+pub mod NumberShown
+pub mod NumberSize
