@@ -1,0 +1,7 @@
+pub mod Slots
+pub mod Entries
+pub mod Stops
+pub mod Spelled
+pub mod WholeImages
+pub mod Appending
+pub mod OneFault
