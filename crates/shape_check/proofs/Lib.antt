@@ -1,0 +1,16 @@
+pub mod Values
+pub mod Typing
+pub mod Meanings
+pub mod Occurrences
+pub mod Plain
+pub mod Arms
+pub mod Cleanness
+pub mod Unique
+pub mod Judged
+pub mod Pairs
+pub mod Statements
+pub mod Programs
+pub mod Lookups
+pub mod Decisions
+pub mod Kept
+pub mod Loops

@@ -1,0 +1,15 @@
+pub mod Node
+pub mod Typed
+pub mod Statement
+pub mod Rules
+pub mod Checked
+pub mod Meaning
+pub mod Scope
+pub mod Typing
+pub mod Faults
+pub mod Judge
+pub mod Both
+pub mod Numbers
+pub mod Ending
+pub mod Occurrences
+pub mod Laws
