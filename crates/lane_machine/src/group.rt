@@ -20,7 +20,7 @@ use crate::element::{
 };
 use crate::flags::{flags_for, whole_elements};
 use crate::kernel::answers;
-use crate::operand::bytes_at;
+use crate::operand::load_bytes;
 use spad_store::Spad;
 use ven_base::{Elem, bits_of, wrap};
 use venice_isa::VecWork;
@@ -40,7 +40,8 @@ pub(crate) fn beat(cells: &mut Spad, work: &VecWork, current: &Current, count: u
         result ≡ (if work.now.kind.acc then sum_after work.now (progress_of current.now) cells.old (lane_group_at work.now lanes (progress_of current.now)) else pos 0) }
     ensures bounded { IsBounded (current.now.first + count) result }
 {
-    let results = work_out(cells, work, current, count);
+    let mut results = [0; MOST_BYTES];
+    work_out(cells, work, current, count, &mut results);
     if work.kind.acc {
         let sum = current.sum + i128::from(sum_of(work.kind.elem, &results, count));
         if work.vl - current.first == count {
@@ -57,19 +58,20 @@ pub(crate) fn beat(cells: &mut Spad, work: &VecWork, current: &Current, count: u
 }
 
 /// Works out the results for the next `count` elements, from the cells as they are.
-fn work_out(cells: &Spad, work: &VecWork, current: &Current, count: u32) -> Bytes
+fn work_out(cells: &Spad, work: &VecWork, current: &Current, count: u32, results: &mut Bytes)
     requires placed { IsPlaced work.now current.now }
     requires in_row { current.now.first + count ≤ work.now.vl }
     requires some { 0 < count }
     requires few { count * wider work.now.kind.elem work.now.kind.from ≤ 16 }
     requires inside { IsInside work.now (length cells.now) }
     requires small { length cells.now < 2 ^ 32 }
-    ensures { HasSpelled work.now.kind.elem count (results_from work.now cells.now current.now.row current.now.first) result }
+    ensures { HasSpelled work.now.kind.elem count (results_from work.now cells.now current.now.row current.now.first) results.new }
 {
     let kind = work.kind;
-    let a = current.a.load(cells, kind.from, count);
-    let b = current.b.load(cells, kind.elem, count);
-    answers(kind, &a, &b)
+    let (mut a, mut b) = ([0; MOST_BYTES], [0; MOST_BYTES]);
+    current.a.load(cells, kind.from, count, &mut a);
+    current.b.load(cells, kind.elem, count, &mut b);
+    answers(kind, &a, &b, results);
 }
 
 /// The sum of so many first elements of a group.
@@ -158,27 +160,24 @@ fn move_flagged(cells: &mut Spad, work: &VecWork, current: &Current, count: u32,
     let place = current.dst.next as u32;
     let bytes = count * elem.size();
     let moved = whole_elements(elem, current.b.flags(cells, elem, count));
-    let old = bytes_at(cells, place, bytes);
     let flags = cells.get_flags(place, bytes);
-    put_first(cells, place, &chosen(moved, results, &old), bytes);
+    let mut merged = [0; MOST_BYTES];
+    load_bytes(cells, place, bytes, &mut merged);
+    merge(moved, results, &mut merged);
+    put_first(cells, place, &merged, bytes);
     cells.put_flags(place, bytes, flags & !moved);
 }
 
-/// Byte by byte the new one where its bit is set, and the old one where it isn't.
-fn chosen(moved: u64, new: &Bytes, old: &Bytes) -> Bytes
-    ensures long { length result ≡ 16 }
-    ensures each { (j : ℕ) → j < 16 → slice_index_or result j 0
-        ≡ (if has_bit moved j then slice_index_or new.now j 0 else slice_index_or old.now j 0) }
+/// Puts new bytes where their bits are set, and leaves the others.
+fn merge(moved: u64, new: &Bytes, bytes: &mut Bytes)
+    ensures long { length bytes.new ≡ 16 }
+    ensures each { (j : ℕ) → j < 16 → slice_index_or bytes.new j 0
+        ≡ (if has_bit moved j then slice_index_or new.now j 0 else slice_index_or bytes.old j 0) }
 {
-    let mut bytes = *old;
     for j in 0..MOST_BYTES {
-        bytes[j] = if (moved >> j) & 1 == 1 {
-            new[j]
-        } else {
-            old[j]
-        };
+        let old = bytes[j];
+        bytes[j] = if (moved >> j) & 1 == 1 { new[j] } else { old };
     }
-    bytes
 }
 
 /// Writes a row's sum, which wraps and clears its flags, into the row's element.

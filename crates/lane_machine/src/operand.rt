@@ -23,17 +23,19 @@ pub(crate) enum Operand {
 impl Operand {
     ghost use Rattle.lane_machine.specs.Operand.{EndsBelow, CanGoOn, CanTurn, number_in, flag_in, a_group_on, at_next_row};
 
-    /// The bytes of the next `count` elements.
-    pub(crate) fn load(&self, cells: &Spad, elem: Elem, count: u32) -> Bytes
+    /// Loads the bytes of the next `count` elements.
+    pub(crate) fn load(&self, cells: &Spad, elem: Elem, count: u32, bytes: &mut Bytes)
         requires few { count * size_of elem ≤ 16 }
         requires in_type { IsElement elem (number_in elem self.now cells.now 0) }
         requires inside { EndsBelow elem self.now count (length cells.now) }
         requires small { length cells.now < 2 ^ 32 }
-        ensures { HasNumbers elem count (number_in elem self.now cells.now) result }
+        ensures { HasNumbers elem count (number_in elem self.now cells.now) bytes.new }
     {
         match self {
-            Operand::Number(n) => repeated(elem, *n),
-            Operand::Elements(walk) => bytes_at(cells, walk.next as u32, count * elem.size()),
+            Operand::Number(n) => repeat(elem, *n, bytes),
+            Operand::Elements(walk) => {
+                load_bytes(cells, walk.next as u32, count * elem.size(), bytes);
+            }
         }
     }
 
@@ -72,45 +74,41 @@ impl Operand {
     }
 }
 
-/// The bytes of so many cells.
+/// Loads the bytes of so many cells.
 #[inline]
-pub(crate) fn bytes_at(cells: &Spad, place: u32, count: u32) -> Bytes
+pub(crate) fn load_bytes(cells: &Spad, place: u32, count: u32, bytes: &mut Bytes)
     requires few { count ≤ 16 }
     requires inside { place + count ≤ length cells.now }
-    ensures long { length result ≡ 16 }
-    ensures bytes { take count result ≡ bytes_from cells.now place count }
+    ensures long { length bytes.new ≡ 16 }
+    ensures bytes { take count bytes.new ≡ bytes_from cells.now place count }
 {
-    let mut bytes = [0; MOST_BYTES];
     if count as usize == MOST_BYTES {
-        cells.get_bytes(place, &mut bytes);
+        cells.get_bytes(place, bytes);
     } else {
         cells.get_bytes(place, &mut bytes[..count as usize]);
     }
-    bytes
 }
 
-/// One number for all elements of a group.
-fn repeated(elem: Elem, n: i64) -> Bytes
-    ensures { HasSpelled elem (16 / size_of elem) (λ _. n) result }
+/// Puts one number into all elements of a group.
+fn repeat(elem: Elem, n: i64, bytes: &mut Bytes)
+    ensures { HasSpelled elem (16 / size_of elem) (λ _. n) bytes.new }
 {
     match elem {
-        Elem::U8 => repeated_as::<TypeU8>(n),
-        Elem::I8 => repeated_as::<TypeI8>(n),
-        Elem::U16 => repeated_as::<TypeU16>(n),
-        Elem::I16 => repeated_as::<TypeI16>(n),
-        Elem::U32 => repeated_as::<TypeU32>(n),
-        Elem::I32 => repeated_as::<TypeI32>(n),
+        Elem::U8 => repeat_as::<TypeU8>(n, bytes),
+        Elem::I8 => repeat_as::<TypeI8>(n, bytes),
+        Elem::U16 => repeat_as::<TypeU16>(n, bytes),
+        Elem::I16 => repeat_as::<TypeI16>(n, bytes),
+        Elem::U32 => repeat_as::<TypeU32>(n, bytes),
+        Elem::I32 => repeat_as::<TypeI32>(n, bytes),
     }
 }
 
 /// The same of one type.
-fn repeated_as<E: Element>(n: i64) -> Bytes
-    ensures { HasSpelled E.ELEM (16 / size_of E.ELEM) (λ _. n) result }
+fn repeat_as<E: Element>(n: i64, bytes: &mut Bytes)
+    ensures { HasSpelled E.ELEM (16 / size_of E.ELEM) (λ _. n) bytes.new }
 {
     let elem = E::ELEM;
-    let mut bytes = [0; MOST_BYTES];
     for k in 0..16 / elem.size() {
-        put(elem, &mut bytes, k, bits_of(elem, n));
+        put(elem, bytes, k, bits_of(elem, n));
     }
-    bytes
 }

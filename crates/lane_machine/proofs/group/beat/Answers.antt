@@ -7,8 +7,8 @@ use Rattle.lane_machine.proofs.Spelled.{few_of_group, few_in_group, few_bytes, s
 use Rattle.lane_machine.proofs.Beats.{sum_same, sum_beat_ends, sum_beat_goes_on, group_beat}
 use Rattle.lane_machine.proofs.group.beat.Goals as goal
 
-pub work_out-results-requires-clause-few : goal.work_out-results-requires-clause-few
-work_out-results-requires-clause-few c =
+pub work_out-requires-clause-few : goal.work_out-requires-clause-few
+work_out-requires-clause-few c =
     let kind = c.args.work.now.kind in
     few_in_group c.args.current.now.group c.args.count (wider kind.elem kind.from) (omega arith) c.requires.at.placed.few
 
@@ -34,7 +34,7 @@ returns-then-work-current-clause-cells c = λ lanes on.
     let exact = exact_sum current.sum c.sum_of.result c.from.result current.first c.args.count c.requires.at.bounded c.sum_of.ensures.bounded (search rules) (omega (arith, few_of_group work.kind.elem work.kind.from current.group c.requires.at.placed.few)) c.from.ensures in
     c.put_sum.ensures
     ∙ sum_beat_ends lanes work current c.requires.at on c.args.cells.now _ c.if-work.true (c.if-work-current.true ∙ c.requires.count)
-    (exact ∙ sum_same lanes work current c.requires.at on c.args.cells.now c.sum_of.result (rw (← c.requires.count) (c.sum_of.ensures.value ∙ sum_is work c.args.cells.now current.row current.first c.args.count c.work_out-results.result c.work_out-results.ensures)))
+    (exact ∙ sum_same lanes work current c.requires.at on c.args.cells.now c.sum_of.result (rw (← c.requires.count) (c.sum_of.ensures.value ∙ sum_is work c.args.cells.now current.row current.first c.args.count c.work_out.new.results c.work_out.ensures)))
 
 pub returns-then-work-current-clause-sum : goal.returns-then-work-current-clause-sum
 returns-then-work-current-clause-sum c = λ lanes on.
@@ -42,7 +42,7 @@ returns-then-work-current-clause-sum c = λ lanes on.
     let current = c.args.current.now in
     let exact = exact_sum current.sum c.sum_of.result c.from.result current.first c.args.count c.requires.at.bounded c.sum_of.ensures.bounded (search rules) (omega (arith, few_of_group work.kind.elem work.kind.from current.group c.requires.at.placed.few)) c.from.ensures in
     exact
-    ∙ sum_same lanes work current c.requires.at on c.args.cells.now c.sum_of.result (rw (← c.requires.count) (c.sum_of.ensures.value ∙ sum_is work c.args.cells.now current.row current.first c.args.count c.work_out-results.result c.work_out-results.ensures))
+    ∙ sum_same lanes work current c.requires.at on c.args.cells.now c.sum_of.result (rw (← c.requires.count) (c.sum_of.ensures.value ∙ sum_is work c.args.cells.now current.row current.first c.args.count c.work_out.new.results c.work_out.ensures))
     ∙ sym (cond-true work.kind.acc _ _ c.if-work.true)
 
 pub returns-then-work-current-clause-bounded : goal.returns-then-work-current-clause-bounded
@@ -62,7 +62,7 @@ returns-else-work-current-clause-sum c = λ lanes on.
     let current = c.args.current.now in
     let exact = exact_sum current.sum c.sum_of.result c.from.result current.first c.args.count c.requires.at.bounded c.sum_of.ensures.bounded (search rules) (omega (arith, few_of_group work.kind.elem work.kind.from current.group c.requires.at.placed.few)) c.from.ensures in
     exact
-    ∙ sum_same lanes work current c.requires.at on c.args.cells.now c.sum_of.result (rw (← c.requires.count) (c.sum_of.ensures.value ∙ sum_is work c.args.cells.now current.row current.first c.args.count c.work_out-results.result c.work_out-results.ensures))
+    ∙ sum_same lanes work current c.requires.at on c.args.cells.now c.sum_of.result (rw (← c.requires.count) (c.sum_of.ensures.value ∙ sum_is work c.args.cells.now current.row current.first c.args.count c.work_out.new.results c.work_out.ensures))
     ∙ sym (cond-true work.kind.acc _ _ c.if-work.true)
 
 pub returns-else-work-current-clause-bounded : goal.returns-else-work-current-clause-bounded

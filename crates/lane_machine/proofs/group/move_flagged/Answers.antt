@@ -18,8 +18,8 @@ pub flags-requires-clause-inside : goal.flags-requires-clause-inside
 flags-requires-clause-inside c =
     b_ends c.args.work.now c.args.current.now c.requires.placed (length c.args.cells.now) c.requires.inside c.args.count c.requires.some c.requires.in_row
 
-pub bytes_at-old-requires-clause-inside : goal.bytes_at-old-requires-clause-inside
-bytes_at-old-requires-clause-inside c =
+pub load_bytes-requires-clause-inside : goal.load_bytes-requires-clause-inside
+load_bytes-requires-clause-inside c =
     let all = dst_ends c.args.work.now c.args.current.now c.requires.placed (length c.args.cells.now) c.requires.inside c.args.count c.requires.some c.requires.in_row c.requires.no_sum in
     omega (arith, all, ap (λ size. c.args.count * size) c.size.ensures)
 
@@ -55,6 +55,6 @@ returns c =
     c.put_flags.ensures.cells
     ∙ ap (λ cells. with_flags cells place (flags_of n left)) c.put_first.ensures.cells
     ∙ moved_put work cells current.row current.first count place n c.requires.placed.dst_is.next_is n_is few.0 (omega (arith, all, n_is)) c.args.results.now c.requires.results c.requires.conditional
-    c.bytes_at-old.result c.chosen.result c.flags.result moved c.get_flags-flags.result c.bytes_at-old.ensures.long c.bytes_at-old.ensures.bytes c.get_flags-flags.ensures.flags c.whole_elements-moved.type_inv c.whole_elements-moved.ensures
+    c.load_bytes.new.bytes c.merge.new.bytes c.flags.result moved c.get_flags-flags.result c.load_bytes.ensures.long c.load_bytes.ensures.bytes c.get_flags-flags.ensures.flags c.whole_elements-moved.type_inv c.whole_elements-moved.ensures
     (λ k below. c.flags.ensures k below ∙ b_flag work current c.requires.placed c.requires.conditional cells k)
-    c.chosen.ensures.long c.chosen.ensures.each
+    c.merge.ensures.long c.merge.ensures.each

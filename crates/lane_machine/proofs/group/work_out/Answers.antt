@@ -12,28 +12,28 @@ use Rattle.lane_machine.proofs.Places.{a_ends, b_ends, a_number, b_number, a_in_
 use Rattle.lane_machine.proofs.Spelled.{few_of, few_bytes, spelled_same, spelled_fewer}
 use Rattle.lane_machine.proofs.group.work_out.Goals as goal
 
-pub load-a-requires-clause-few : goal.load-a-requires-clause-few
-load-a-requires-clause-few c =
+pub load-requires-clause-few : goal.load-requires-clause-few
+load-requires-clause-few c =
     let kind = c.args.work.now.kind in
     (few_bytes kind.elem kind.from c.args.count c.requires.few).1
 
-pub load-b-requires-clause-few : goal.load-b-requires-clause-few
-load-b-requires-clause-few c =
+pub load-requires-2-clause-few : goal.load-requires-2-clause-few
+load-requires-2-clause-few c =
     let kind = c.args.work.now.kind in
     (few_bytes kind.elem kind.from c.args.count c.requires.few).0
 
-pub load-a-requires-clause-in_type : goal.load-a-requires-clause-in_type
-load-a-requires-clause-in_type c = a_in_type c.args.work.now c.args.current.now c.requires.placed c.args.cells.now 0
+pub load-requires-clause-in_type : goal.load-requires-clause-in_type
+load-requires-clause-in_type c = a_in_type c.args.work.now c.args.current.now c.requires.placed c.args.cells.now 0
 
-pub load-b-requires-clause-in_type : goal.load-b-requires-clause-in_type
-load-b-requires-clause-in_type c = b_in_type c.args.work.now c.args.current.now c.requires.placed c.args.cells.now 0
+pub load-requires-2-clause-in_type : goal.load-requires-2-clause-in_type
+load-requires-2-clause-in_type c = b_in_type c.args.work.now c.args.current.now c.requires.placed c.args.cells.now 0
 
-pub load-a-requires-clause-inside : goal.load-a-requires-clause-inside
-load-a-requires-clause-inside c =
+pub load-requires-clause-inside : goal.load-requires-clause-inside
+load-requires-clause-inside c =
     a_ends c.args.work.now c.args.current.now c.requires.placed (length c.args.cells.now) c.requires.inside c.args.count c.requires.some c.requires.in_row
 
-pub load-b-requires-clause-inside : goal.load-b-requires-clause-inside
-load-b-requires-clause-inside c =
+pub load-requires-2-clause-inside : goal.load-requires-2-clause-inside
+load-requires-2-clause-inside c =
     b_ends c.args.work.now c.args.current.now c.requires.placed (length c.args.cells.now) c.requires.inside c.args.count c.requires.some c.requires.in_row
 
 pub returns : goal.returns
@@ -44,18 +44,18 @@ returns c =
     let current = c.args.current.now in
     let cells = c.args.cells.now in
     let count = c.args.count in
-    let a = c.load-a.result in
-    let b = c.load-b.result in
+    let a = c.load.new.bytes in
+    let b = c.load-2.new.bytes in
     let most = wider kind.elem kind.from in
     let enough : count ≤ 16 / most = few_of most count (omega (arith, size_positive kind.elem)) c.requires.few in
-    spelled_same kind.elem (λ k. answer_of kind.op kind.elem (element_in kind.from a k) (element_in kind.elem b k)) (results_from work cells current.row current.first) count c.answers.result
-    (spelled_fewer kind.elem (λ k. answer_of kind.op kind.elem (element_in kind.from a k) (element_in kind.elem b k)) (16 / most) count c.answers.result enough c.answers.ensures)
+    spelled_same kind.elem (λ k. answer_of kind.op kind.elem (element_in kind.from a k) (element_in kind.elem b k)) (results_from work cells current.row current.first) count c.answers.new.results
+    (spelled_fewer kind.elem (λ k. answer_of kind.op kind.elem (element_in kind.from a k) (element_in kind.elem b k)) (16 / most) count c.answers.new.results enough c.answers.ensures)
     (λ k below.
     let na = number_of_a work cells current.row (current.first + k) in
     let nb = number_of_b work cells current.row (current.first + k) in
     sym (result_is kind (element_in kind.from a k) (element_in kind.elem b k) kind.op refl)
-    ∙ ap (λ n. result_of kind n (element_in kind.elem b k)) (c.load-a.ensures.each k below ∙ a_number work current c.requires.placed cells k)
+    ∙ ap (λ n. result_of kind n (element_in kind.elem b k)) (c.load.ensures.each k below ∙ a_number work current c.requires.placed cells k)
     ∙ elim (cases_Bool (uses_b kind.op)) [
-      | inl used ↦ ap (result_of kind na) (c.load-b.ensures.each k below ∙ b_number work current c.requires.placed used cells k)
+      | inl used ↦ ap (result_of kind na) (c.load-2.ensures.each k below ∙ b_number work current c.requires.placed used cells k)
       | inr unused ↦ result_without_b kind na nb (element_in kind.elem b k) unused
     ])

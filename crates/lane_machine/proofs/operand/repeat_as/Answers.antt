@@ -6,7 +6,7 @@ use Rattle.venice_isa.specs.Element.{low_bytes, bytes_of}
 use Rattle.venice_isa.proofs.Wholes.{size_positive}
 use Rattle.lane_machine.specs.Elements.{HasSpelled}
 use Rattle.lane_machine.proofs.Spelled.{spelled_more, elements_fit}
-use Rattle.lane_machine.proofs.operand.repeated_as.Goals as goal
+use Rattle.lane_machine.proofs.operand.repeat_as.Goals as goal
 
 pub loop-k-preserved : goal.loop-k-preserved
 loop-k-preserved g c =
