@@ -381,7 +381,7 @@ fn orders_of_many_trees(rt: HostRuntime) -> Result<(), Fail> {
         let assigned = assert_order(&rt, alloc, made(alloc, &mut seed, 5)?)?;
         most = assigned.slots.max(most);
     }
-    assert!(rt; most > 5);
+    assert!(rt; most == 5);
     Ok(())
 }
 
