@@ -492,16 +492,21 @@ const MODES: [(bool, bool, bool); 4] = [
 ];
 
 /// Cells of a scratchpad of an odd size, which this number decides: A at 1, B at 201 and the destination at 401.
-fn scattered(alloc: Global, seed: u32) -> Result<Spad, AllocError>
-    ensures { IfOk result (λ spad. length spad ≡ 601) }
-{
+fn scattered(alloc: Global, seed: u32) -> Result<Spad, AllocError> {
     let mut spad = Spad::new(alloc, 601)?;
     let mut state = seed;
     for at in 0..601 {
         state = state.wrapping_mul(1_664_525).wrapping_add(1_013_904_223);
-        spad.put(at, state.to_le_bytes()[3], state % 0x2_0000 < 0x1_0000);
+        scatter(&mut spad, at, state);
     }
     Ok(spad)
+}
+
+/// Puts the number's highest byte and one of its bits into a cell.
+fn scatter(spad: &mut Spad, at: u32, number: u32) {
+    if at < spad.len() {
+        spad.put(at, (number >> 24) as u8, number & 0x1_0000 == 0);
+    }
 }
 
 /// The number of the element at a place, or 0 where it doesn't lie in the cells.
@@ -592,7 +597,7 @@ fn is_right(alloc: Global, kind: VecKind, lanes: u32, seed: u32) -> Result<bool,
     };
     let before = scattered(alloc, seed)?;
     let mut after = scattered(alloc, seed)?;
-    if !lies_below(&work, 601) {
+    if !lies_below(&work, after.len()) {
         return Ok(false);
     }
     run(alloc, lanes, work, &mut after)?;
