@@ -239,7 +239,7 @@ fn faults_of_the_outside_have_their_status(rt: HostRuntime) -> Result<(), Fail> 
     Ok(())
 }
 
-/// A sink with memory for one piece.
+/// A sink with memory for one piece, of which no more is told than of the standard output.
 #[derive(Drop)]
 struct OnePiece {
     bytes: Vec<u8>,
@@ -247,14 +247,9 @@ struct OnePiece {
 }
 
 impl Sink for OnePiece {
-    ghost use Rattle.std.specs.Prelude.{◌≡◌};
-    ghost use Rattle.std.specs.List.{concat};
+    ghost use Rattle.ven_io.specs.Host.{sink_state};
 
-    ghost state = { λ s. record {
-      has_taken = λ pieces. s.bytes.items ≡ concat pieces;
-      may_fail = ⊥;
-      failed_puts = 0;
-    } };
+    ghost state = { λ s. sink_state 0 };
 
     fn put(&mut self, bytes: &[u8]) -> Result<(), OutFault> {
         if self.is_full {
