@@ -1,8 +1,9 @@
 #!/usr/bin/env bash
 # How long a beat of the lanes takes, in nanoseconds: for 4 lanes and for 1, each operation and type, on rows of 1,024
 # elements; besides, an addition of a scalar, sums, casts from `u8` and `i32`, and rows of 3 elements, which are no whole
-# group. Each figure is the least of 7 rounds of some hundred thousand beats, with the making of the lanes and the loop
-# over the beats among it. The script makes a program of its own in a copy of the crates, which the toolchain proves
+# group. Each figure is the least of 500 rounds of a thousand beats or more, so short that a busy machine lets some of them
+# run undisturbed; the making of the lanes and the loop over the beats are among it. The script makes a program of its
+# own in a copy of the crates, which the toolchain proves
 # before it runs: that takes minutes where nothing has been proved yet.
 set -eu
 unset CDPATH
@@ -35,8 +36,8 @@ use std::time::Instant;
 use ven_base::Elem;
 use venice_isa::{VecKind, VecOp, VecWork};
 
-const ROUNDS: u32 = 7;
-const TURNS: u32 = 300;
+const ROUNDS: u32 = 500;
+const TURNS: u32 = 4;
 
 const ELEMS: [Elem; 6] = [Elem::U8, Elem::I8, Elem::U16, Elem::I16, Elem::U32, Elem::I32];
 
