@@ -1,4 +1,4 @@
-//! The array language's text, read and printed (docs/LANGUAGE.md).
+//! Programs of the array language as types, with their limits (docs/LANGUAGE.md). Nothing reads or prints a text yet.
 //!
 //! `Program` is what a text denotes: its statements and their expressions, each with its place in the text.
 #![tactic(auto)]
