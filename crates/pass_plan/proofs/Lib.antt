@@ -1,7 +1,6 @@
 pub mod Labels
 pub mod Sums
 pub mod Tilings
-pub mod Made
 pub mod Values
 pub mod Nodes
 pub mod Operands

@@ -1,5 +1,5 @@
 -- A label is at most the number of inner nodes; nodes by the sizes of their operands.
-use Rattle.std.proofs.Common.{◌≡◌, ℕ, ◌+◌, ◌<◌, ◌≤◌, List, [], ◌∷◌, ◌++◌, length, get_or, take, map, refl, sym, ap, ◌∙◌, subst, arith, Bool, true, false}
+use Rattle.std.proofs.Common.{◌≡◌, ℕ, ◌+◌, ◌<◌, ◌≤◌, List, [], ◌∷◌, ◌++◌, length, get_or, take, map, sym, ap, ◌∙◌, subst, arith, Bool, true, false}
 use Rattle.std.specs.Prelude.{if◌then◌else◌, nat_lt, max, ◌&&◌, ◌==◌, not}
 use Rattle.std.proofs.lemmas.Bool.{cases_Bool}
 use Rattle.std.proofs.lemmas.List.{map_more}
@@ -8,9 +8,9 @@ use Rattle.ven_base.specs.Elem as elem_size
 use Rattle.pass_plan.specs.Tree.{TreeOver, AtLeaf, Literal, One, Two, Cast, Move, Select, is_computed, operands_of}
 use Rattle.pass_plan.specs.Label.{label_of, least_label, needed, insert_label, with_label}
 use Rattle.pass_plan.specs.declared.turn.TreeSize.{TreeSize}
-use Rattle.pass_plan.specs.Numbers.{inner_of, turns_of, node_at}
-use Rattle.pass_plan.specs.NumberSize.{size_of, turns_by, total_inner, held_by, node_by, size_by}
-use Rattle.pass_plan.proofs.Turns.{counted, turns_same, label_is}
+use Rattle.pass_plan.specs.Numbers.{inner_of, node_at}
+use Rattle.pass_plan.specs.NumberSize.{size_of, total_inner, held_by, node_by, size_by}
+use Rattle.pass_plan.proofs.Turns.{turns_same, label_is}
 
 pub needed-insert : (l : ℕ) (ls : List ℕ) → 1 ≤ l → needed (insert_label l ls) ≤ l + needed ls
 needed-insert l [] h = omega arith

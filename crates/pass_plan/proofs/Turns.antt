@@ -1,13 +1,12 @@
 -- Operands in turn, by their sizes and by their trees.
-use Rattle.std.proofs.Common.{◌≡◌, ℕ, zero, suc, ◌+◌, ◌<◌, ◌≤◌, List, [], ◌∷◌, ◌++◌, length, map, refl, sym, ap, ◌∙◌, subst, arith, Bool, true, false}
+use Rattle.std.proofs.Common.{◌≡◌, ℕ, suc, ◌+◌, List, [], ◌∷◌, map, refl, sym, ap, ◌∙◌, subst, arith, Bool, true, false}
 use Rattle.std.specs.Prelude.{if◌then◌else◌, nat_lt, max, insert}
-use Rattle.std.proofs.lemmas.Bool.{lt-ltb, cases_Bool}
-use mathlib.Core.Logic.{⊎_elim}
+use Rattle.std.proofs.lemmas.Bool.{lt-ltb}
 use Rattle.pass_plan.specs.Tree.{TreeOver, AtLeaf, Literal, One, Two, Cast, Move, Select, is_computed, operands_of}
 use Rattle.pass_plan.specs.Label.{label_of, least_label, needed, insert_label, with_label}
 use Rattle.pass_plan.specs.declared.turn.Turn.{Turn}
-use Rattle.pass_plan.specs.Numbers.{inner_of, insert_turn, with_turn, turns_of, node_at}
-use Rattle.pass_plan.specs.NumberSize.{size_of, turns_by, turns_above, total_inner, node_by, size_by}
+use Rattle.pass_plan.specs.Numbers.{inner_of, insert_turn, turns_of}
+use Rattle.pass_plan.specs.NumberSize.{size_of, turns_by, turns_above}
 
 pub counted : {L : Type 0} (t : TreeOver L) → nat_lt 0 (inner_of t) ≡ is_computed t
 counted (AtLeaf l) = refl

@@ -6,16 +6,15 @@ use Rattle.std.specs.Ordering.{int_eq}
 use Rattle.std.specs.Bool.{Decides}
 use Rattle.std.proofs.lemmas.Bool.Decides.{Decides-int_eq}
 use Rattle.ven_base.specs.declared.elem.Elem.{Elem}
-use Rattle.ven_base.specs.declared.ops.Op2.{Op2}
-use Rattle.ven_base.specs.declared.ops.Op2.TheVariants.{Add, Sub, Mul, And, Or, Xor, Shl, Shr, Min, Max, Eq, Ne, Lt, Le, Gt, Ge, SatAdd, SatSub}
+use Rattle.ven_base.specs.declared.ops.Op2.TheVariants.{Ne}
 use Rattle.ven_base.specs.Elem.{IsElement}
 use Rattle.ven_base.specs.Wrap.{wrapped}
-use Rattle.ven_base.specs.Operation.{applied1, applied2, exact1, exact2, one_or_zero}
+use Rattle.ven_base.specs.Operation.{applied1, applied2, exact1, one_or_zero}
 use Rattle.ven_base.specs.Folding.{folded, IsFolded}
 use Rattle.ven_base.specs.Extent.{IsExtent}
 use Rattle.ven_base.specs.Mapping.{source_of, fill_of}
-use Rattle.ven_base.specs.Grid.{Grid, IsGrid, value_at}
-use Rattle.ven_base.proofs.Operations.{IsElement-one_or_zero, IsElement-nearest}
+use Rattle.ven_base.specs.Grid.{IsGrid, value_at}
+use Rattle.ven_base.proofs.Operations.{IsElement-one_or_zero, IsElement-applied2, IsElement-chosen}
 use Rattle.ven_base.proofs.Wrapped.{wrapped_in, IsElement-wrapped}
 use Rattle.ven_base.proofs.Reductions.{IsFolded-folded, IsElement-IsFolded}
 use Rattle.pass_plan.specs.declared.leaf.Leaf.{Leaf}
@@ -27,7 +26,7 @@ use Rattle.pass_plan.specs.Normal.{is_comparison, condition_if, as_computed, wit
 use Rattle.pass_plan.specs.Pass.{Pass, Arrays, no_leaf, read_as, leaf_at, tree_at, row_values, result_of, made_at, pass_array}
 use Rattle.pass_plan.specs.Sound.{IsNumbering, IsSoundLeaf, IsSoundPass, HasArrays, IsArrayOf, no_place}
 use Rattle.pass_plan.proofs.Tilings.{rows_few}
-use Rattle.pass_plan.proofs.Made.{row_values-length, row_values-all, IsGrid-grid_with}
+use Rattle.ven_base.proofs.Made.{row_values-length, row_values-all, IsGrid-grid_with}
 
 -- ---- normalising
 
@@ -119,43 +118,18 @@ value_of-numbered tree leaves numbered at is = sym (value_of-with_leaves numbere
 element_as : (a b : Elem) (x : ℤ) → a ≡ b → IsElement a x → IsElement b x
 element_as a b x same h = subst (λ (e : Elem). IsElement e x) same h
 
-chosen-IsElement : (elem : Elem) (c x y : ℤ) → IsElement elem x → IsElement elem y → IsElement elem (chosen c x y)
-chosen-IsElement elem (pos zero) x y h l = l
-chosen-IsElement elem (pos (suc c)) x y h l = h
-chosen-IsElement elem (negsuc c) x y h l = h
-
-applied2-IsElement : (op : Op2) (elem : Elem) (x y : ℤ) → IsElement elem (applied2 op elem x y)
-applied2-IsElement SatAdd elem x y = IsElement-nearest elem (exact2 SatAdd elem x y)
-applied2-IsElement SatSub elem x y = IsElement-nearest elem (exact2 SatSub elem x y)
-applied2-IsElement Add elem x y = IsElement-wrapped elem (exact2 Add elem x y)
-applied2-IsElement Sub elem x y = IsElement-wrapped elem (exact2 Sub elem x y)
-applied2-IsElement Mul elem x y = IsElement-wrapped elem (exact2 Mul elem x y)
-applied2-IsElement And elem x y = IsElement-wrapped elem (exact2 And elem x y)
-applied2-IsElement Or elem x y = IsElement-wrapped elem (exact2 Or elem x y)
-applied2-IsElement Xor elem x y = IsElement-wrapped elem (exact2 Xor elem x y)
-applied2-IsElement Shl elem x y = IsElement-wrapped elem (exact2 Shl elem x y)
-applied2-IsElement Shr elem x y = IsElement-wrapped elem (exact2 Shr elem x y)
-applied2-IsElement Min elem x y = IsElement-wrapped elem (exact2 Min elem x y)
-applied2-IsElement Max elem x y = IsElement-wrapped elem (exact2 Max elem x y)
-applied2-IsElement Eq elem x y = IsElement-wrapped elem (exact2 Eq elem x y)
-applied2-IsElement Ne elem x y = IsElement-wrapped elem (exact2 Ne elem x y)
-applied2-IsElement Lt elem x y = IsElement-wrapped elem (exact2 Lt elem x y)
-applied2-IsElement Le elem x y = IsElement-wrapped elem (exact2 Le elem x y)
-applied2-IsElement Gt elem x y = IsElement-wrapped elem (exact2 Gt elem x y)
-applied2-IsElement Ge elem x y = IsElement-wrapped elem (exact2 Ge elem x y)
-
 -- a tree whose types agree gives a number of the type that it is asked for, where leaves and literals do
 pub value_of-IsElement : {L : Type 0} (t : TreeOver L) (Of : L → Elem → Type 0) (Number : ℤ → Elem → Type 0) (at : L → ℤ) (asked : Elem)
     → ((l : L) (e : Elem) → Of l e → IsElement e (at l)) → ((n : ℤ) (e : Elem) → Number n e → IsElement e n) → TypesAgree t Of Number asked → IsElement asked (value_of t at)
 value_of-IsElement (AtLeaf l) Of Number at asked f g h = f l asked h
 value_of-IsElement (Literal n) Of Number at asked f g h = g n asked h
 value_of-IsElement (One op elem a) Of Number at asked f g h = element_as elem asked (applied1 op elem (value_of a at)) h.0 (IsElement-wrapped elem (exact1 op (value_of a at)))
-value_of-IsElement (Two op elem a b) Of Number at asked f g h = element_as elem asked (applied2 op elem (value_of a at) (value_of b at)) h.0 (applied2-IsElement op elem (value_of a at) (value_of b at))
+value_of-IsElement (Two op elem a b) Of Number at asked f g h = element_as elem asked (applied2 op elem (value_of a at) (value_of b at)) h.0 (IsElement-applied2 op elem (value_of a at) (value_of b at))
 value_of-IsElement (Cast elem from a) Of Number at asked f g h = element_as elem asked (wrapped elem (value_of a at)) h.0 (IsElement-wrapped elem (value_of a at))
 value_of-IsElement (Move elem a) Of Number at asked f g h = element_as elem asked (value_of a at) h.0 (value_of-IsElement a Of Number at elem f g h.1)
 value_of-IsElement (Select elem c x y) Of Number at asked f g h =
     element_as elem asked (chosen (value_of c at) (value_of x at) (value_of y at)) h.0
-    (chosen-IsElement elem (value_of c at) (value_of x at) (value_of y at) (value_of-IsElement x Of Number at elem f g h.2) (value_of-IsElement y Of Number at elem f g h.3))
+    (IsElement-chosen elem (value_of c at) (value_of x at) (value_of y at) (value_of-IsElement x Of Number at elem f g h.2) (value_of-IsElement y Of Number at elem f g h.3))
 
 or_zero : (elem : Elem) (xs : List ℤ) (k : ℕ) → All (IsElement elem) xs → IsElement elem (slice_index_or xs k (pos 0))
 or_zero elem [] k all = (IsElement-one_or_zero elem false)

@@ -37,7 +37,8 @@ pub record IsArrayByte (array : ArrayPlace) (values : List ℤ) (at byte : ℕ) 
 
 -- ---- leaves
 
--- the number of the element of its array that a leaf has at an index of the domain, row by row: none where a fill stands
+-- the number of the element of its array that a leaf has at an index of the domain, row by row: none where a fill
+-- stands
 abbrev pub element_of : Leaf → (i j : ℕ) → Option ℕ
 element_of leaf i j = option_map (λ s. s.0 * leaf.shape.cols + s.1) (source_of leaf.map leaf.shape i j)
 
@@ -114,7 +115,8 @@ module _ (pass : Pass) (tile : Tile) where
   -- a tile's value, or a row's result so far, in a row and a column of the tile
   abbrev pub result_at : Arrays → (t row column : ℕ) → ℤ
   result_at arrays t row column =
-      made_so_far arrays pass pass.kind (first_row pass.domain tile t + row) (first_column pass.domain tile t + column) (first_column pass.domain tile t + piece_columns t)
+      made_so_far arrays pass pass.kind (first_row pass.domain tile t + row) (first_column pass.domain tile t + column)
+      (first_column pass.domain tile t + piece_columns t)
 
   -- ---- which bytes stand where
 
@@ -128,12 +130,15 @@ module _ (pass : Pass) (tile : Tile) where
     pub row_within : row < piece_rows t
     pub column_within : column < piece_columns t
     pub b_within : b < size_of (get_or pass.leaves number no_leaf).elem
-    pub mapped : element_of (get_or pass.leaves number no_leaf) (first_row pass.domain tile t + row) (first_column pass.domain tile t + column) ≡ Some index
-    pub is : at ≡ cell_of (leaf_buffer number (t % 2)) ((row * piece_columns t + column) * size_of (get_or pass.leaves number no_leaf).elem + b)
+    pub mapped : element_of (get_or pass.leaves number no_leaf) (first_row pass.domain tile t + row)
+        (first_column pass.domain tile t + column) ≡ Some index
+    pub is : at ≡ cell_of (leaf_buffer number (t % 2))
+        ((row * piece_columns t + column) * size_of (get_or pass.leaves number no_leaf).elem + b)
 
   pub record IsLeafByte (arrays : Arrays) (number t : ℕ) (at byte : ℕ) : Type 0 where
     pub stands : IsLeafPlace number t at
-    pub is : byte ≡ byte_of_value (get_or pass.leaves number no_leaf).elem (get_or (arrays (get_or pass.leaves number no_leaf).array).values stands.index (pos 0)) stands.b
+    pub is : byte ≡ byte_of_value (get_or pass.leaves number no_leaf).elem
+        (get_or (arrays (get_or pass.leaves number no_leaf).array).values stands.index (pos 0)) stands.b
 
   -- a byte of a tile's results, in its output half
   pub record IsResultPlace (t : ℕ) (at : ℕ) : Type 0 where
@@ -149,7 +154,8 @@ module _ (pass : Pass) (tile : Tile) where
     pub stands : IsResultPlace t at
     pub is : byte ≡ byte_of_value pass.elem (result_at arrays t stands.row stands.column) stands.b
 
-  -- a byte of the rows' results over the columns before a tile, which a later tile of a cut row finds in its output half
+  -- a byte of the rows' results over the columns before a tile, which a later tile of a cut row finds in its output
+  -- half
   pub record IsCarriedByte (arrays : Arrays) (t : ℕ) (at byte : ℕ) : Type 0 where
     pub later : begins_row t ≡ false
     pub row : ℕ
@@ -157,7 +163,8 @@ module _ (pass : Pass) (tile : Tile) where
     pub row_within : row < piece_rows t
     pub b_within : b < size_of pass.elem
     pub stands : at ≡ cell_of (output_buffer (output_half t)) (row * size_of pass.elem + b)
-    pub is : byte ≡ byte_of_value pass.elem (made_so_far arrays pass pass.kind (first_row pass.domain tile t + row) 0 (first_column pass.domain tile t)) b
+    pub is : byte ≡ byte_of_value pass.elem
+        (made_so_far arrays pass pass.kind (first_row pass.domain tile t + row) 0 (first_column pass.domain tile t)) b
 
   -- a byte of the destination's piece, in memory: of a row's last tile alone
   pub record IsPiecePlace (place : ℕ) (t : ℕ) (at : ℕ) : Type 0 where
@@ -168,7 +175,8 @@ module _ (pass : Pass) (tile : Tile) where
     pub row_within : row < piece_rows t
     pub column_within : column < piece_results t
     pub b_within : b < size_of pass.elem
-    pub is : at ≡ place + (((first_row pass.domain tile t + row) * result_columns + (first_result t + column)) * size_of pass.elem + b)
+    pub is : at ≡ place
+        + (((first_row pass.domain tile t + row) * result_columns + (first_result t + column)) * size_of pass.elem + b)
 
   pub record IsPieceByte (arrays : Arrays) (place : ℕ) (t : ℕ) (at byte : ℕ) : Type 0 where
     pub stands : IsPiecePlace place t at

@@ -22,7 +22,8 @@ abbrev pub least_label : {L : Type 0} → TreeOver L → ℕ
 least_label (Cast elem from a) = if is_computed a && not (size_of elem == size_of from) then 2 else 1
 least_label _ = 1
 
--- the label of a tree, by those of its computed operands in falling order: they are worked out one after another, and each result is held
+-- the label of a tree, by those of its computed operands in falling order: they are worked out one after another, and
+-- each result is held
 abbrev pub label_of : {L : Type 0} → TreeOver L → ℕ
 label_of (AtLeaf l) = 0
 label_of (Literal n) = 0
@@ -30,7 +31,8 @@ label_of (One op elem a) = max 1 (needed (with_label a (label_of a) []))
 label_of (Two op elem a b) = max 1 (needed (with_label a (label_of a) (with_label b (label_of b) [])))
 label_of (Cast elem from a) = max (least_label (Cast elem from a)) (needed (with_label a (label_of a) []))
 label_of (Move elem a) = max 1 (needed (with_label a (label_of a) []))
-label_of (Select elem c x y) = max 1 (needed (with_label c (label_of c) (with_label x (label_of x) (with_label y (label_of y) []))))
+label_of (Select elem c x y) =
+    max 1 (needed (with_label c (label_of c) (with_label x (label_of x) (with_label y (label_of y) []))))
 
 -- Inner: the same by three labels, 0 where there is none
 abbrev pub insert_some : ℕ → List ℕ → List ℕ

@@ -1,5 +1,5 @@
 -- What holds of passes, tiles and buffers.
-use Rattle.std.specs.Prelude.{◌≡◌, ℕ, ◌*◌, ◌≤◌, ◌<◌, ℤ, List, length, All, true, get_or}
+use Rattle.std.specs.Prelude.{◌≡◌, ℕ, ◌*◌, ◌≤◌, ◌<◌, ℤ, List, All, true, get_or}
 use Rattle.ven_base.specs.declared.elem.Elem.{Elem}
 use Rattle.ven_base.specs.Extent.{IsExtent, IsIndex}
 use Rattle.ven_base.specs.Grid.{IsGrid}
@@ -19,16 +19,21 @@ use Rattle.pass_plan.specs.Sound.{IsNumbering, HasArrays, IsSoundPass}
 
 -- each index of a pass's domain is in a tile, and in one alone
 abbrev pub TilesCover : Type 0
-TilesCover = (pass : Pass) (tile : Tile) → IsExtent pass.domain → IsTileOf pass tile → (i j : ℕ) → IsIndex pass.domain i j
+TilesCover =
+    (pass : Pass) (tile : Tile) → IsExtent pass.domain → IsTileOf pass tile → (i j : ℕ) → IsIndex pass.domain i j
     → (t : ℕ) × (t < tiles_of pass.domain tile) × IsInPiece (piece_of pass.domain tile t) i j
 
 abbrev pub TilesAreApart : Type 0
-TilesAreApart = (pass : Pass) (tile : Tile) → IsExtent pass.domain → IsTileOf pass tile → (i j t u : ℕ) → t < tiles_of pass.domain tile → u < tiles_of pass.domain tile
+TilesAreApart =
+    (pass : Pass) (tile : Tile) → IsExtent pass.domain → IsTileOf pass tile → (i j t u : ℕ)
+    → t < tiles_of pass.domain tile → u < tiles_of pass.domain tile
     → IsInPiece (piece_of pass.domain tile t) i j → IsInPiece (piece_of pass.domain tile u) i j → t ≡ u
 
 -- each tile has rows and columns, and lies in the domain
 abbrev pub TilesLieInside : Type 0
-TilesLieInside = (pass : Pass) (tile : Tile) → IsExtent pass.domain → IsTileOf pass tile → (t : ℕ) → t < tiles_of pass.domain tile → IsPieceOf pass.domain (piece_of pass.domain tile t)
+TilesLieInside =
+    (pass : Pass) (tile : Tile) → IsExtent pass.domain → IsTileOf pass tile → (t : ℕ) → t < tiles_of pass.domain tile
+    → IsPieceOf pass.domain (piece_of pass.domain tile t)
 
 -- ---- need
 
@@ -38,7 +43,8 @@ NeedHoldsEach = (passes : List Pass) → All (λ pass. pass_need pass ≤ need_o
 
 -- all buffers of a pass's tile lie in a scratchpad that holds its need
 abbrev pub BuffersLieInside : Type 0
-BuffersLieInside = (pass : Pass) (spad : ℕ) → pass_need pass ≤ spad → buffers_of pass * buffer_bytes pass (tile_of pass spad) ≤ spad
+BuffersLieInside =
+    (pass : Pass) (spad : ℕ) → pass_need pass ≤ spad → buffers_of pass * buffer_bytes pass (tile_of pass spad) ≤ spad
 
 -- a tile of a pass has rows and columns
 abbrev pub TilesAreSome : Type 0
@@ -55,12 +61,17 @@ LabelsAreFew = (tree : TreeOver ℕ) → label_of tree ≤ nodes_of tree
 
 -- normalising and numbering keep a tree's value
 abbrev pub NormalisingKeeps : Type 0
-NormalisingKeeps = (elem : Elem) (tree : TreeOver Leaf) (at : Leaf → ℤ) → value_of (normalised elem tree) at ≡ value_of tree at
+NormalisingKeeps =
+    (elem : Elem) (tree : TreeOver Leaf) (at : Leaf → ℤ) → value_of (normalised elem tree) at ≡ value_of tree at
 
 abbrev pub NumberingKeeps : Type 0
-NumberingKeeps = (tree : TreeOver Leaf) (leaves : List Leaf) (numbered : TreeOver ℕ) (at : Leaf → ℤ) → IsNumbering tree leaves numbered
+NumberingKeeps =
+    (tree : TreeOver Leaf) (leaves : List Leaf) (numbered : TreeOver ℕ) (at : Leaf → ℤ)
+    → IsNumbering tree leaves numbered
     → value_of numbered (λ k. at (get_or leaves k no_leaf)) ≡ value_of tree at
 
 -- over arrays with the types and numbers of elements of their places, a sound pass makes an array of its type
 abbrev pub PassesMakeArrays : Type 0
-PassesMakeArrays = (places : List ArrayPlace) (later : List ℕ) (pass : Pass) (arrays : Arrays) → IsSoundPass places later pass → HasArrays places arrays pass.leaves → IsGrid (pass_array arrays pass)
+PassesMakeArrays =
+    (places : List ArrayPlace) (later : List ℕ) (pass : Pass) (arrays : Arrays) → IsSoundPass places later pass
+    → HasArrays places arrays pass.leaves → IsGrid (pass_array arrays pass)

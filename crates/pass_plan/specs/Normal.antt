@@ -31,7 +31,8 @@ HasNormalSelects (One op elem a) = HasNormalSelects a
 HasNormalSelects (Two op elem a b) = HasNormalSelects a × HasNormalSelects b
 HasNormalSelects (Cast elem from a) = HasNormalSelects a
 HasNormalSelects (Move elem a) = HasNormalSelects a
-HasNormalSelects (Select elem c x y) = (is_comparison c ≡ true) × (is_computed y ≡ true) × HasNormalSelects c × HasNormalSelects x × HasNormalSelects y
+HasNormalSelects (Select elem c x y) =
+    (is_comparison c ≡ true) × (is_computed y ≡ true) × HasNormalSelects c × HasNormalSelects x × HasNormalSelects y
 
 -- a normalised tree: so are its selects, and its root is an inner node that is no select
 pub record IsNormal {L : Type 0} (tree : TreeOver L) : Type 0 where
@@ -63,7 +64,8 @@ with_selects (One op elem a) = One op elem (with_selects a)
 with_selects (Two op elem a b) = Two op elem (with_selects a) (with_selects b)
 with_selects (Cast elem from a) = Cast elem from (with_selects a)
 with_selects (Move elem a) = Move elem (with_selects a)
-with_selects (Select elem c x y) = Select elem (as_condition elem (with_selects c)) (with_selects x) (as_computed elem (with_selects y))
+with_selects (Select elem c x y) =
+    Select elem (as_condition elem (with_selects c)) (with_selects x) (as_computed elem (with_selects y))
 
 -- a root that is a leaf, a literal or a select becomes a move of it
 abbrev pub as_root : {L : Type 0} → Elem → TreeOver L → TreeOver L

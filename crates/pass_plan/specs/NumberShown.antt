@@ -1,5 +1,5 @@
--- The code's nodes and subtrees as plain values.
-use Rattle.std.specs.Prelude.{◌≡◌, ℕ, ℤ, pos, List, ◌++◌, map}
+-- Inner: the code's nodes and subtrees as plain values.
+use Rattle.std.specs.Prelude.{◌≡◌, ℕ, pos, List, ◌++◌, map}
 use Rattle.pass_plan.specs.Tree as plain
 use Rattle.pass_plan.specs.Tree.{TreeOver}
 use Rattle.pass_plan.specs.Shown.{tree_of}
@@ -8,7 +8,13 @@ use Rattle.pass_plan.specs.declared.subtree.Subtree.{Subtree}
 use Rattle.pass_plan.specs.Numbers.{Node, nodes_from}
 
 abbrev pub node_of : NumberedNode → Node
-node_of node = record { number = node.number; label = node.label; inner = node.inner; least = node.least; turns = node.turns.items }
+node_of node = record {
+  number = node.number;
+  label = node.label;
+  inner = node.inner;
+  least = node.least;
+  turns = node.turns.items;
+}
 
 -- past the last operand
 abbrev pub no_tree : TreeOver ℕ

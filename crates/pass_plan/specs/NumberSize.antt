@@ -12,7 +12,8 @@ size_of t = record { label = label_of t; inner = inner_of t }
 abbrev pub turns_by : List TreeSize → (place number : ℕ) → List Turn
 turns_by [] k n = []
 turns_by (size ∷ sizes) k n =
-    if nat_lt 0 size.inner then insert_turn (record { place = k; number = n; label = size.label }) (turns_by sizes (k + 1) (n + size.inner))
+    if nat_lt 0 size.inner
+    then insert_turn (record { place = k; number = n; label = size.label }) (turns_by sizes (k + 1) (n + size.inner))
     else turns_by sizes (k + 1) (n + size.inner)
 
 -- how many of the first have a greater label
@@ -29,7 +30,13 @@ abbrev pub held_by : List TreeSize → ℕ → ℕ
 held_by sizes n = needed (map (λ turn. turn.label) (turns_by sizes 0 n))
 
 abbrev pub node_by : List TreeSize → (number least : ℕ) → Node
-node_by sizes n least = record { number = n; label = max least (held_by sizes (n + 1)); inner = 1 + total_inner sizes; least = least; turns = turns_by sizes 0 (n + 1) }
+node_by sizes n least = record {
+  number = n;
+  label = max least (held_by sizes (n + 1));
+  inner = 1 + total_inner sizes;
+  least = least;
+  turns = turns_by sizes 0 (n + 1);
+}
 
 abbrev pub size_by : List TreeSize → (number least : ℕ) → TreeSize
 size_by sizes n least = record { label = max least (held_by sizes (n + 1)); inner = 1 + total_inner sizes }

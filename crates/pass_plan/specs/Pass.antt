@@ -1,11 +1,11 @@
 -- Passes, and what they make of whole arrays.
-use Rattle.std.specs.Prelude.{ℕ, ℤ, List, [], ◌∷◌, map, get_or, ◌==◌, if◌then◌else◌}
-use Rattle.std.specs.List.{range_with_len, flat_map}
+use Rattle.std.specs.Prelude.{ℕ, ℤ, List, [], ◌∷◌, get_or, ◌==◌, if◌then◌else◌}
 use Rattle.ven_base.specs.declared.elem.Elem.{Elem}
 use Rattle.ven_base.specs.declared.elem.Elem.TheVariants.{U8}
 use Rattle.ven_base.specs.declared.mapping.Mapping.TheVariants.{Identity}
 use Rattle.ven_base.specs.Extent.{Extent}
 use Rattle.ven_base.specs.Grid.{Grid, mapped_at}
+pub use Rattle.ven_base.specs.Grid.{row_values, values_with, grid_with}
 use Rattle.ven_base.specs.Folding.{folded}
 use Rattle.pass_plan.specs.declared.leaf.Leaf.{Leaf}
 use Rattle.pass_plan.specs.declared.pass.PassKind.{PassKind}
@@ -38,20 +38,6 @@ Arrays = ℕ → Grid
 -- the same with another array at a number
 abbrev pub with_array : Arrays → ℕ → Grid → Arrays
 with_array arrays dest array k = if k == dest then array else arrays k
-
--- ---- arrays by their values
-
--- the values in a row of so many columns, where this is the value in each column
-abbrev pub row_values : ℕ → (ℕ → ℤ) → List ℤ
-row_values cols f = map f (range_with_len 0 cols)
-
--- the values at all indices of a shape, row by row, where this is the value at each index
-abbrev pub values_with : Extent → (ℕ → ℕ → ℤ) → List ℤ
-values_with shape f = flat_map (λ i. row_values shape.cols (f i)) (range_with_len 0 shape.rows)
-
--- the array of this type and shape with this value at each index
-abbrev pub grid_with : Elem → Extent → (ℕ → ℕ → ℤ) → Grid
-grid_with elem shape f = record { elem = elem; shape = shape; values = values_with shape f }
 
 -- ---- values
 

@@ -19,10 +19,22 @@ tree_of (Move' elem p a) = plain.Move elem (tree_of a)
 tree_of (Select' elem p c q x r y) = plain.Select elem (tree_of c) (tree_of x) (tree_of y)
 
 abbrev pub pass_of : Pass → plain_pass.Pass
-pass_of pass = record { kind = pass.kind; domain = pass.domain; leaves = pass.leaves.items; tree = tree_of pass.tree; dest = pass.dest; elem = pass.elem }
+pass_of pass = record {
+  kind = pass.kind;
+  domain = pass.domain;
+  leaves = pass.leaves.items;
+  tree = tree_of pass.tree;
+  dest = pass.dest;
+  elem = pass.elem;
+}
 
 abbrev pub passes_of : List Pass → List plain_pass.Pass
 passes_of passes = map pass_of passes
 
 abbrev pub split_of : Split → sound.Split
-split_of split = record { passes = passes_of split.passes.items; arrays = split.arrays.items; table = split.table.items; memory = split.memory }
+split_of split = record {
+  passes = passes_of split.passes.items;
+  arrays = split.arrays.items;
+  table = split.table.items;
+  memory = split.memory;
+}

@@ -29,7 +29,8 @@ no_place = record { elem = U8; shape = record { rows = 1; cols = 1 }; place = 0 
 
 -- ---- leaves by number
 
--- each number is at most one above all before it, and in the end there were so many: they are in the order of their first occurrences
+-- each number is at most one above all before it, and in the end there were so many: they are in the order of their
+-- first occurrences
 abbrev pub CountUp : List ℕ → (count all : ℕ) → Type 0
 CountUp [] count all = count ≡ all
 CountUp (k ∷ ks) count all = (k ≤ count) × CountUp ks (max count (k + 1)) all
@@ -55,8 +56,8 @@ pub record IsNumbering (tree : TreeOver Leaf) (leaves : List Leaf) (numbered : T
 abbrev pub destinations_of : List Pass → List ℕ
 destinations_of passes = map (λ (pass : Pass). pass.dest) passes
 
--- the leaf reads an array that there is, with its type and number of elements, which this pass and later ones don't make, under a
--- map that gives the domain
+-- the leaf reads an array that there is, with its type and number of elements, which this pass and later ones don't
+-- make, under a map that gives the domain
 pub record IsSoundLeaf (arrays : List ArrayPlace) (later : List ℕ) (domain : Extent) (leaf : Leaf) : Type 0 where
   pub known : leaf.array < length arrays
   pub ready : ¬ Contains later leaf.array
@@ -73,13 +74,14 @@ pub record IsSoundResult (arrays : List ArrayPlace) (pass : Pass) : Type 0 where
   pub elem_is : (get_or arrays pass.dest no_place).elem ≡ pass.elem
   pub as_many : elements_of (get_or arrays pass.dest no_place).shape ≡ elements_of (result_of pass.kind pass.domain)
 
--- the types of a tree agree where these are its leaves: its root has this type, each literal is in the range of its type, and each
--- leaf is one of them
+-- the types of a tree agree where these are its leaves: its root has this type, each literal is in the range of its
+-- type, and each leaf is one of them
 abbrev pub IsTyped : List Leaf → TreeOver ℕ → Elem → Type 0
-IsTyped leaves tree elem = TypesAgree tree (λ k of. (k < length leaves) × ((get_or leaves k no_leaf).elem ≡ of)) (λ n of. IsElement of n) elem
+IsTyped leaves tree elem =
+    TypesAgree tree (λ k of. (k < length leaves) × ((get_or leaves k no_leaf).elem ≡ of)) (λ n of. IsElement of n) elem
 
--- the pass reads arrays that are there by then, and has a normalised tree whose types agree; `later` are the arrays that it and later
--- passes make
+-- the pass reads arrays that are there by then, and has a normalised tree whose types agree; `later` are the arrays
+-- that it and later passes make
 pub record IsSoundPass (arrays : List ArrayPlace) (later : List ℕ) (pass : Pass) : Type 0 where
   pub shaped : IsExtent pass.domain
   pub result : IsSoundResult arrays pass
@@ -124,4 +126,5 @@ pub record IsArrayOf (place : ArrayPlace) (array : Grid) : Type 0 where
 
 -- the leaves' arrays are those of their places
 abbrev pub HasArrays : List ArrayPlace → Arrays → List Leaf → Type 0
-HasArrays places arrays leaves = All (λ (leaf : Leaf). IsArrayOf (get_or places leaf.array no_place) (arrays leaf.array)) leaves
+HasArrays places arrays leaves =
+    All (λ (leaf : Leaf). IsArrayOf (get_or places leaf.array no_place) (arrays leaf.array)) leaves

@@ -9,7 +9,10 @@ use Rattle.pass_plan.specs.Need.{pass_need}
 
 -- the tile of at most so many elements: whole rows where one fits, else a part of one
 abbrev pub tile_within : Extent → ℕ → Tile
-tile_within domain items = record { h = if nat_le domain.cols items then min domain.rows (items / domain.cols) else 1; w = min domain.cols items }
+tile_within domain items = record {
+  h = if nat_le domain.cols items then min domain.rows (items / domain.cols) else 1;
+  w = min domain.cols items;
+}
 
 -- the tile of a pass in so many bytes of scratchpad
 abbrev pub tile_of : Pass → ℕ → Tile

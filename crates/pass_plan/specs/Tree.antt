@@ -1,5 +1,5 @@
 -- The trees of passes, over leaves of any kind, and their values.
-use Rattle.std.specs.Prelude.{◌≡◌, ℕ, zero, suc, ◌+◌, max, ℤ, pos, negsuc, Bool, true, false, List, [], ◌∷◌, ◌++◌}
+use Rattle.std.specs.Prelude.{◌≡◌, ℕ, ◌+◌, max, ℤ, Bool, true, false, List, [], ◌∷◌, ◌++◌}
 use Rattle.ven_base.specs.declared.elem.Elem.{Elem}
 use Rattle.ven_base.specs.declared.elem.Elem.TheVariants.{U8}
 use Rattle.ven_base.specs.declared.ops.Op1.{Op1}
@@ -7,6 +7,7 @@ use Rattle.ven_base.specs.declared.ops.Op2.{Op2}
 use Rattle.ven_base.specs.Elem.{size_of}
 use Rattle.ven_base.specs.Wrap.{wrapped}
 use Rattle.ven_base.specs.Operation.{applied1, applied2}
+pub use Rattle.ven_base.specs.Operation.{chosen}
 use Rattle.pass_plan.specs.declared.tree.TreeOp.{TreeOp}
 use Rattle.pass_plan.specs.declared.tree.TreeOp.TheVariants as tree_op
 
@@ -19,12 +20,6 @@ pub data TreeOver (L : Type 0) : Type 0 where
   Cast : (elem from : Elem) (a : TreeOver L) → TreeOver L
   Move : (elem : Elem) (a : TreeOver L) → TreeOver L
   Select : (elem : Elem) (c x y : TreeOver L) → TreeOver L
-
--- a choice takes the second where the first isn't 0
-abbrev pub chosen : ℤ → ℤ → ℤ → ℤ
-chosen (pos zero) x y = y
-chosen (pos (suc n)) x y = x
-chosen (negsuc n) x y = x
 
 -- a tree's value, where these are the leaves' values
 abbrev pub value_of : {L : Type 0} → TreeOver L → (L → ℤ) → ℤ
@@ -123,13 +118,15 @@ with_leaves (Cast elem from a) f = Cast elem from (with_leaves a f)
 with_leaves (Move elem a) f = Move elem (with_leaves a f)
 with_leaves (Select elem c x y) f = Select elem (with_leaves c f) (with_leaves x f) (with_leaves y f)
 
--- the types of a tree that is asked for this one agree: each inner node gives the type that its node asks for, and leaves and
--- literals are as the two tests say of that type
+-- the types of a tree that is asked for this one agree: each inner node gives the type that its node asks for, and
+-- leaves and literals are as the two tests say of that type
 abbrev pub TypesAgree : {L : Type 0} → TreeOver L → (L → Elem → Type 0) → (ℤ → Elem → Type 0) → Elem → Type 0
 TypesAgree (AtLeaf l) Leaf Number asked = Leaf l asked
 TypesAgree (Literal n) Leaf Number asked = Number n asked
 TypesAgree (One op elem a) Leaf Number asked = (elem ≡ asked) × TypesAgree a Leaf Number elem
-TypesAgree (Two op elem a b) Leaf Number asked = (elem ≡ asked) × TypesAgree a Leaf Number elem × TypesAgree b Leaf Number elem
+TypesAgree (Two op elem a b) Leaf Number asked =
+    (elem ≡ asked) × TypesAgree a Leaf Number elem × TypesAgree b Leaf Number elem
 TypesAgree (Cast elem from a) Leaf Number asked = (elem ≡ asked) × TypesAgree a Leaf Number from
 TypesAgree (Move elem a) Leaf Number asked = (elem ≡ asked) × TypesAgree a Leaf Number elem
-TypesAgree (Select elem c x y) Leaf Number asked = (elem ≡ asked) × TypesAgree c Leaf Number elem × TypesAgree x Leaf Number elem × TypesAgree y Leaf Number elem
+TypesAgree (Select elem c x y) Leaf Number asked =
+    (elem ≡ asked) × TypesAgree c Leaf Number elem × TypesAgree x Leaf Number elem × TypesAgree y Leaf Number elem

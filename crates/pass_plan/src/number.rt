@@ -27,7 +27,8 @@ pub fn numbered(alloc: Global, tree: &Tree) -> Result<Vec<NumberedNode>, AllocEr
 /// A tree's nodes go behind the others, and have the next numbers.
 fn number(alloc: Global, tree: &Tree, nodes: &mut Vec<NumberedNode>) -> Result<TreeSize, AllocError>
     requires { vec_len nodes.old + inner_of (tree_of tree.now) < 2 ^ 31 }
-    ensures nodes { IfOk result (λ size. map node_of nodes.new.items ≡ map node_of nodes.old.items ++ nodes_from (tree_of tree.now) (vec_len nodes.old + 1)) }
+    ensures nodes { IfOk result (λ size. map node_of nodes.new.items
+        ≡ map node_of nodes.old.items ++ nodes_from (tree_of tree.now) (vec_len nodes.old + 1)) }
     ensures size { IfOk result (λ size. size ≡ size_of (tree_of tree.now)) }
     ensures count { IfOk result (λ size. vec_len nodes.new ≡ vec_len nodes.old + inner_of (tree_of tree.now)) }
 {
@@ -74,7 +75,8 @@ fn put(
     requires numbers { at + total_inner sizes.now + 2 < 2 ^ 32 }
     requires labels { held_by sizes.now (at + 2) < 2 ^ 32 }
     requires few { length sizes.now < 2 ^ 32 - 1 }
-    ensures nodes { IfOk result (λ size. map node_of nodes.new.items ≡ slice_set (map node_of nodes.old.items) at (node_by sizes.now (at + 1) least)) }
+    ensures nodes { IfOk result (λ size. map node_of nodes.new.items
+        ≡ slice_set (map node_of nodes.old.items) at (node_by sizes.now (at + 1) least)) }
     ensures size { IfOk result (λ size. size ≡ size_by sizes.now (at + 1) least) }
     ensures count { vec_len nodes.new ≡ vec_len nodes.old }
 {

@@ -100,7 +100,8 @@ impl<'t> Subtree<'t> {
     /// Its root's computed operands in turn: none at a leaf or a literal.
     pub fn turns(&self) -> &'t [Turn]
         requires { (n : ℕ) × IsSubtree self.now n }
-        ensures turns { (n : ℕ) → IsSubtree self.now n → result.now ≡ turns_of (operands_of (tree_of self.now.tree.now)) 0 (n + 1) }
+        ensures turns { (n : ℕ) → IsSubtree self.now n
+            → result.now ≡ turns_of (operands_of (tree_of self.now.tree.now)) 0 (n + 1) }
         ensures places { map (λ turn. turn.place) result.now ≡ places_of (tree_of self.now.tree.now) }
     {
         if self.is_computed() {
@@ -115,7 +116,8 @@ impl<'t> Subtree<'t> {
         requires place { place < length (operands_of (tree_of self.now.tree.now)) }
         requires nodes { (n : ℕ) × IsSubtree self.now n }
         ensures tree { tree_of result.tree.now ≡ get_or (operands_of (tree_of self.now.tree.now)) place no_tree }
-        ensures nodes { (n : ℕ) → IsSubtree self.now n → IsSubtree result (operand_number (operands_of (tree_of self.now.tree.now)) place (n + 1)) }
+        ensures nodes { (n : ℕ) → IsSubtree self.now n
+            → IsSubtree result (operand_number (operands_of (tree_of self.now.tree.now)) place (n + 1)) }
     {
         let mut nodes = &self.nodes[1..];
         for k in 0..place {

@@ -9,4 +9,5 @@ pub mod Places
 pub mod MachineWords
 pub mod Operations
 pub mod Grids
+pub mod Made
 pub mod Jobs

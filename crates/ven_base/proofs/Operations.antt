@@ -1,5 +1,5 @@
 -- Results of operations that are numbers of the type already, and so need no wrapping.
-use Rattle.std.proofs.Common.{◌≡◌, ℕ, ◌^◌, refl, sym, ◌∙◌, arith}
+use Rattle.std.proofs.Common.{◌≡◌, ℕ, zero, suc, ◌^◌, refl, sym, ◌∙◌, arith}
 use Rattle.std.specs.Prelude.{ℤ, pos, negsuc, ◌≤ℤ◌, ◌<ℤ◌, neg_ℤ, Bool, true, false}
 use Rattle.std.specs.Int.{int_div_euclid, int_min, int_max}
 use Rattle.std.proofs.lemmas.Int.{ints, clamps}
@@ -8,10 +8,12 @@ use lib.Signed.{shr_z}
 use Rattle.ven_base.specs.declared.elem.Elem.{Elem}
 use Rattle.ven_base.specs.declared.elem.Elem.TheVariants.{U8, I8, U16, I16, U32, I32}
 use Rattle.ven_base.specs.Elem.{IsElement}
-use Rattle.ven_base.specs.Operation.{one_or_zero}
+use Rattle.ven_base.specs.declared.ops.Op2.{Op2}
+use Rattle.ven_base.specs.declared.ops.Op2.TheVariants.{SatAdd, SatSub}
+use Rattle.ven_base.specs.Operation.{one_or_zero, exact2, applied2, chosen}
 use Rattle.ven_base.specs.Wrap.{wrapped}
 use Rattle.ven_base.specs.Saturation.{IsNearest, nearest}
-use Rattle.ven_base.proofs.Wrapped.{wrapped_in, zero_in}
+use Rattle.ven_base.proofs.Wrapped.{wrapped_in, zero_in, IsElement-wrapped}
 
 -- a result that is a number of the type
 pub is_wrapped : (elem : Elem) (r z : ℤ) → r ≡ z → IsElement elem z → r ≡ wrapped elem z
@@ -66,3 +68,14 @@ IsNearest-nearest elem n =
 
 pub IsElement-nearest : (elem : Elem) (n : ℤ) → IsElement elem (nearest elem n)
 IsElement-nearest elem n = (IsNearest-nearest elem n).in_range
+
+-- what an operation gives, and what a choice takes, is a number of the type
+pub IsElement-applied2 : (op : Op2) (elem : Elem) (x y : ℤ) → IsElement elem (applied2 op elem x y)
+IsElement-applied2 SatAdd elem x y = IsElement-nearest elem (exact2 SatAdd elem x y)
+IsElement-applied2 SatSub elem x y = IsElement-nearest elem (exact2 SatSub elem x y)
+IsElement-applied2 op elem x y = IsElement-wrapped elem (exact2 op elem x y)
+
+pub IsElement-chosen : (elem : Elem) (c x y : ℤ) → IsElement elem x → IsElement elem y → IsElement elem (chosen c x y)
+IsElement-chosen elem (pos zero) x y h l = l
+IsElement-chosen elem (pos (suc n)) x y h l = h
+IsElement-chosen elem (negsuc n) x y h l = h

@@ -1,5 +1,6 @@
 -- Arrays: a type, a shape and the values, row by row.
-use Rattle.std.specs.Prelude.{◌≡◌, ℕ, ℤ, pos, ◌+◌, ◌*◌, List, length, All, slice_index_or}
+use Rattle.std.specs.Prelude.{◌≡◌, ℕ, ℤ, pos, ◌+◌, ◌*◌, List, length, map, All, slice_index_or}
+use Rattle.std.specs.List.{range_with_len, flat_map}
 use Rattle.std.specs.Option.{option_map_or}
 use Rattle.ven_base.specs.declared.elem.Elem.{Elem}
 use Rattle.ven_base.specs.declared.ops.Op1.{Op1}
@@ -24,6 +25,18 @@ pub record IsGrid (grid : Grid) : Type 0 where
 -- the value in row i and column j
 abbrev pub value_at : Grid → ℕ → ℕ → ℤ
 value_at grid i j = slice_index_or grid.values (i * grid.shape.cols + j) (pos 0)
+
+-- the values in a row of so many columns, where this is the value in each column
+abbrev pub row_values : ℕ → (ℕ → ℤ) → List ℤ
+row_values cols f = map f (range_with_len 0 cols)
+
+-- the values at all indices of a shape, row by row, where this is the value at each index
+abbrev pub values_with : Extent → (ℕ → ℕ → ℤ) → List ℤ
+values_with shape f = flat_map (λ i. row_values shape.cols (f i)) (range_with_len 0 shape.rows)
+
+-- the array of this type and shape with this value at each index
+abbrev pub grid_with : Elem → Extent → (ℕ → ℕ → ℤ) → Grid
+grid_with elem shape f = record { elem = elem; shape = shape; values = values_with shape f }
 
 -- the value at index (i, j) of the array's image under a mapping: that at the source, or the fill where there is none
 abbrev pub mapped_at : Mapping → Grid → ℕ → ℕ → ℤ

@@ -1,6 +1,6 @@
 -- What the operations give: the result on whole numbers, which is then wrapped into the type; a saturating operation
 -- gives the nearest number of the type instead.
-use Rattle.std.specs.Prelude.{ℕ, ℤ, pos, negsuc, ◌^◌, ◌+ℤ◌, ◌-ℤ◌, ◌*ℤ◌, neg_ℤ, unsigned_abs, Bool, if◌then◌else◌, bit_and, bit_or, bit_xor, int_lt, not}
+use Rattle.std.specs.Prelude.{ℕ, zero, suc, ℤ, pos, negsuc, ◌^◌, ◌+ℤ◌, ◌-ℤ◌, ◌*ℤ◌, neg_ℤ, unsigned_abs, Bool, if◌then◌else◌, bit_and, bit_or, bit_xor, int_lt, not}
 use Rattle.std.specs.Int.{int_rem_euclid, int_div_euclid, int_min, int_max}
 use Rattle.std.specs.Ordering.{int_eq}
 use Rattle.ven_base.specs.declared.elem.Elem.{Elem}
@@ -61,3 +61,9 @@ abbrev pub applied2 : Op2 → Elem → ℤ → ℤ → ℤ
 applied2 SatAdd elem x y = nearest elem (exact2 SatAdd elem x y)
 applied2 SatSub elem x y = nearest elem (exact2 SatSub elem x y)
 applied2 op elem x y = wrapped elem (exact2 op elem x y)
+
+-- a choice: x where c isn't 0, else y
+abbrev pub chosen : ℤ → ℤ → ℤ → ℤ
+chosen (pos zero) x y = y
+chosen (pos (suc n)) x y = x
+chosen (negsuc n) x y = x

@@ -30,6 +30,10 @@ pub record Size : Type 0 where
 abbrev pub store_size : Store → Size
 store_size store = record { cells = length store.cells; memory = length store.memory }
 
+-- so many cells, and no memory
+abbrev pub cells_alone : ℕ → Size
+cells_alone count = record { cells = count; memory = 0 }
+
 -- a store of this size has the place
 abbrev pub HasPlace : Size → Place → Type 0
 HasPlace size (in_cells p) = p < size.cells

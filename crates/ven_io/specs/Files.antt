@@ -20,7 +20,8 @@ pub record FilesState (Content : Type 0) : Type 0 where
   pub failed_loads : ℕ
   pub failed_saves : ℕ
 
--- Between two moments there were only loads: no file has changed, and one load has failed where that is said, else none.
+-- Between two moments there were only loads: no file has changed, and one load has failed where that is said, else
+-- none.
 pub record OnlyLoads {Content : Type 0} (before after : FilesState Content) (load_failed : Type 0) : Type 0 where
   pub content : after.content ≡ before.content
   pub loads : CountsFaults before.failed_loads after.failed_loads load_failed

@@ -25,10 +25,14 @@ pub record IsNext (text : List ℕ) (from : ℕ) (kind : TokenKind) (token : Tok
 -- the lexemes from a place up to the text's end; line ends are passed over
 pub data IsLexedFrom (text : List ℕ) : ℕ → List Lexeme → Type 0 where
   AtEnd : (from : ℕ) (token : Token) → IsNext text from kinds.End token → IsLexedFrom text from []
-  AtLine : (from : ℕ) (token : Token) (rest : List Lexeme) → IsNext text from kinds.Line token → IsLexedFrom text token.end rest → IsLexedFrom text from rest
-  AtName : (from : ℕ) (token : Token) (rest : List Lexeme) → IsNext text from kinds.Name token → IsLexedFrom text token.end rest → IsLexedFrom text from (Word (bytes_of text token) ∷ rest)
-  AtNumber : (from : ℕ) (token : Token) (n : ℕ) (rest : List Lexeme) → IsNext text from kinds.Number token → ValueOf (bytes_of text token) n → IsLexedFrom text token.end rest → IsLexedFrom text from (Number n ∷ rest)
-  AtSign : (from : ℕ) (token : Token) (rest : List Lexeme) → IsNext text from kinds.Sign token → IsLexedFrom text token.end rest → IsLexedFrom text from (Sign (bytes_of text token) ∷ rest)
+  AtLine : (from : ℕ) (token : Token) (rest : List Lexeme) → IsNext text from kinds.Line token
+      → IsLexedFrom text token.end rest → IsLexedFrom text from rest
+  AtName : (from : ℕ) (token : Token) (rest : List Lexeme) → IsNext text from kinds.Name token
+      → IsLexedFrom text token.end rest → IsLexedFrom text from (Word (bytes_of text token) ∷ rest)
+  AtNumber : (from : ℕ) (token : Token) (n : ℕ) (rest : List Lexeme) → IsNext text from kinds.Number token
+      → ValueOf (bytes_of text token) n → IsLexedFrom text token.end rest → IsLexedFrom text from (Number n ∷ rest)
+  AtSign : (from : ℕ) (token : Token) (rest : List Lexeme) → IsNext text from kinds.Sign token
+      → IsLexedFrom text token.end rest → IsLexedFrom text from (Sign (bytes_of text token) ∷ rest)
 
 -- the lexemes of the whole text
 abbrev pub IsLexed : List ℕ → List Lexeme → Type 0
@@ -41,7 +45,8 @@ LexedAs kinds.Line text token lexemes = IsLexedFrom text token.end lexemes
 LexedAs kinds.Name text token lexemes =
     (rest : List Lexeme) × (lexemes ≡ Word (bytes_of text token) ∷ rest) × IsLexedFrom text token.end rest
 LexedAs kinds.Number text token lexemes =
-    (n : ℕ) × (rest : List Lexeme) × ValueOf (bytes_of text token) n × (lexemes ≡ Number n ∷ rest) × IsLexedFrom text token.end rest
+    (n : ℕ) × (rest : List Lexeme) × ValueOf (bytes_of text token) n × (lexemes ≡ Number n ∷ rest)
+    × IsLexedFrom text token.end rest
 LexedAs kinds.Sign text token lexemes =
     (rest : List Lexeme) × (lexemes ≡ Sign (bytes_of text token) ∷ rest) × IsLexedFrom text token.end rest
 
@@ -58,4 +63,5 @@ LexesByTokens =
 -- nothing is lexed where no token is read
 abbrev pub LexesNothingAtFaults : Type 0
 LexesNothingAtFaults =
-    (text : List ℕ) (from : ℕ) (fault : TokenFault) (lexemes : List Lexeme) → NextIs text from (Err fault) → ¬ IsLexedFrom text from lexemes
+    (text : List ℕ) (from : ℕ) (fault : TokenFault) (lexemes : List Lexeme) → NextIs text from (Err fault)
+    → ¬ IsLexedFrom text from lexemes

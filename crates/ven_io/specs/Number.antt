@@ -68,7 +68,8 @@ ValueOf bytes n = IsNumberToken bytes × (n ≡ value_of bytes)
 
 -- a text denotes one number, or has one fault
 abbrev pub HasOneNumber : Type 0
-HasOneNumber = (text : List ℕ) (one other : Result ℤ NumberFault) → NumberIs text one → NumberIs text other → one ≡ other
+HasOneNumber =
+    (text : List ℕ) (one other : Result ℤ NumberFault) → NumberIs text one → NumberIs text other → one ≡ other
 
 -- what number answers at a number token: its value, or that it is too large
 abbrev pub IsTokensNumber : List ℕ → Result ℤ NumberFault → Type 0
@@ -79,4 +80,6 @@ IsTokensNumber bytes (Err TooLarge) = (value : ℕ) × ValueOf bytes value × (n
 
 -- at a number token, what the text denotes is a value, small or too large, and never another fault
 abbrev pub ReadsTokens : Type 0
-ReadsTokens = (bytes : List ℕ) (result : Result ℤ NumberFault) → IsNumberToken bytes → NumberIs bytes result → IsTokensNumber bytes result
+ReadsTokens =
+    (bytes : List ℕ) (result : Result ℤ NumberFault) → IsNumberToken bytes → NumberIs bytes result
+    → IsTokensNumber bytes result

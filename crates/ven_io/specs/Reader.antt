@@ -21,11 +21,12 @@ behind reader tokens = run_from reader.step reader.start tokens
 abbrev pub Begins : {T P : Type 0} → (List T → P → Type 0) → List T → Type 0
 Begins {T} {P} denotes tokens = (rest : List T) × (value : P) × denotes (tokens ++ rest) value
 
--- the reader follows the grammar: it reads each sentence to its value and nothing else, and wherever it isn't stuck some
--- tokens end a sentence
+-- the reader follows the grammar: it reads each sentence to its value and nothing else, and wherever it isn't stuck
+-- some tokens end a sentence
 pub record Follows {T S P : Type 0} (denotes : List T → P → Type 0) (reader : Reader T S P) : Type 0 where
   pub complete : (tokens : List T) (value : P) → denotes tokens value → reader.value (behind reader tokens) ≡ Some value
   pub sound : (tokens : List T) (value : P) → reader.value (behind reader tokens) ≡ Some value → denotes tokens value
-  pub can_end : (tokens : List T) → behind reader tokens ≢ reader.stuck → (rest : List T) × (value : P) × (reader.value (run_from reader.step (behind reader tokens) rest) ≡ Some value)
+  pub can_end : (tokens : List T) → behind reader tokens ≢ reader.stuck
+      → (rest : List T) × (value : P) × (reader.value (run_from reader.step (behind reader tokens) rest) ≡ Some value)
   pub stays : (token : T) → reader.step reader.stuck token ≡ reader.stuck
   pub none : reader.value reader.stuck ≡ None

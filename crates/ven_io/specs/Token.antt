@@ -58,7 +58,8 @@ abbrev pub signs : List (List ℕ)
 signs =
     codes "<<" ∷ codes ">>" ∷ codes "==" ∷ codes "!=" ∷ codes "<=" ∷ codes ">="
     ∷ codes "+" ∷ codes "-" ∷ codes "*" ∷ codes "&" ∷ codes "|" ∷ codes "^" ∷ codes "~"
-    ∷ codes "(" ∷ codes ")" ∷ codes "[" ∷ codes "]" ∷ codes "," ∷ codes ";" ∷ codes "=" ∷ codes "<" ∷ codes ">" ∷ codes ":"
+    ∷ codes "(" ∷ codes ")" ∷ codes "[" ∷ codes "]" ∷ codes "," ∷ codes ";" ∷ codes "=" ∷ codes "<" ∷ codes ">"
+    ∷ codes ":"
     ∷ []
 
 -- the bytes spell a token of the kind; the text's end has no bytes, and so no spelling
@@ -72,7 +73,8 @@ IsSpelling End bytes = ⊥
 -- no token of more bytes than up to the end is spelled from the start
 abbrev pub NoneBeyond : List ℕ → ℕ → ℕ → Type 0
 NoneBeyond text start end =
-    (kind : TokenKind) (further : ℕ) → end < further → further ≤ length text → ¬ IsSpelling kind (slice_range text start further)
+    (kind : TokenKind) (further : ℕ) → end < further → further ≤ length text
+    → ¬ IsSpelling kind (slice_range text start further)
 
 -- no token begins there
 abbrev pub NoneAt : List ℕ → ℕ → Type 0
@@ -101,4 +103,5 @@ NextIs text from (Err (Unexpected at)) =
 -- one answer only is next: each text and place settles it
 abbrev pub HasOneNext : Type 0
 HasOneNext =
-    (text : List ℕ) (from : ℕ) (one other : Result Token TokenFault) → NextIs text from one → NextIs text from other → one ≡ other
+    (text : List ℕ) (from : ℕ) (one other : Result Token TokenFault) → NextIs text from one → NextIs text from other
+    → one ≡ other

@@ -63,7 +63,8 @@ fn is_double_sign_at(text: &[u8], start: usize) -> bool
 /// The end of the sign at a place, if one stands there: of two bytes before one.
 fn sign_end(text: &[u8], start: usize) -> Option<usize>
     requires { start < length text.now }
-    ensures { MatchOption result (NoSign text.now start) (λ end. StandsAt text.now (record { kind = TokenKind.Sign; start = start; end = end })) }
+    ensures { MatchOption result (NoSign text.now start)
+        (λ end. StandsAt text.now (record { kind = TokenKind.Sign; start = start; end = end })) }
 {
     if is_double_sign_at(text, start) {
         return Some(start + 2);
@@ -123,7 +124,8 @@ pub fn next(text: &[u8], from: u32) -> Result<Token, TokenFault>
     ensures after { IfOk result (λ token. from ≤ token.start) }
     ensures in_text { IfOk result (λ token. token.end ≤ length text.now) }
     ensures some { IfOk result (λ token. token.kind ≢ TokenKind.End → token.start < token.end) }
-    ensures end { IfOk result (λ token. token.kind ≡ TokenKind.End → (token.start ≡ length text.now) × (token.end ≡ length text.now)) }
+    ensures end { IfOk result (λ token. token.kind ≡ TokenKind.End
+        → (token.start ≡ length text.now) × (token.end ≡ length text.now)) }
 {
     let start = stop_from(text, from as usize);
     let at = start as u32;

@@ -121,7 +121,8 @@ impl Files for MemFiles {
 
     /// Failed only where this call's number is one of those that fail, and then that file is empty.
     fn save(&mut self, name: &str, bytes: &[u8]) -> Result<(), OutFault>
-        ensures saved { Saves (behaviour_of (files_state self.old).content) (behaviour_of (files_state self.new).content)
+        ensures saved { Saves (behaviour_of (files_state self.old).content)
+            (behaviour_of (files_state self.new).content)
             name.now bytes.now result }
         ensures memory { IsErrOf result OutFault.Memory
             → (files_state self.new).content ≡ (files_state self.old).content }

@@ -19,7 +19,8 @@ fn read_piece<R: Read>(
 ) -> Result<usize, LoadFault>
     ensures within { IfOk result (λ count. count ≤ length buffer.new) }
     ensures piece { IfOk result (λ count. bytes.new.items ≡ bytes.old.items ++ take count buffer.new) }
-    ensures read { IfOk result (λ count. Consumes (R.remaining reader.old) (R.remaining reader.new) (take count buffer.new)) }
+    ensures read { IfOk result (λ count. Consumes (R.remaining reader.old) (R.remaining reader.new)
+        (take count buffer.new)) }
     ensures end { IfOk result (λ count. count ≡ 0 → 0 < length buffer.new → IsAtEnd (R.remaining reader.new)) }
     ensures found { IsErrOf result LoadFault.Missing → ⊥ }
 {

@@ -20,7 +20,7 @@ use Rattle.venice_isa.specs.Element.{spelled}
 use Rattle.venice_isa.specs.Footprint.{source_a, source_b, destination, Reads, Writes}
 use Rattle.venice_isa.specs.Does.{DoesOne}
 use Rattle.venice_isa.specs.Whole.{is_left_alone, new_element, sum_of_results, spelled_sum, after_work, IsWhole, IsSimple, IsInPlaceOrApart}
-use Rattle.venice_isa.specs.Beat.{Progress, not_begun, lane_group, beats_of_row, vector_beats, group_at, lane_group_at, new_elements, cells_after_sum, sum_left, cells_after_group, vector_beat, progress_after, after_beats, after_all_beats}
+use Rattle.venice_isa.specs.Beat.{Progress, not_begun, lane_group_items, beats_of_row, vector_beats, group_at, lane_group_at, new_elements, cells_after_sum, sum_left, cells_after_group, vector_beat, progress_after, after_beats, after_all_beats}
 use Rattle.venice_isa.proofs.Wholes.{part_length, size_positive, ReadsFor, columns_without_sum, same_slot, same_new_element, same_sum}
 use Rattle.venice_isa.proofs.Spellings.{low_bytes_length}
 use Rattle.venice_isa.proofs.Groups.{element_end, group_length, group_kept, group_others, group_element}
@@ -37,7 +37,7 @@ size_at_most U32 = lit≤ tt
 size_at_most I32 = lit≤ tt
 
 -- a beat of a lane or more takes an element or more
-pub some_group : (work : VecWork) (lanes : ℕ) → 0 < lanes → 0 < lane_group work.kind lanes
+pub some_group : (work : VecWork) (lanes : ℕ) → 0 < lanes → 0 < lane_group_items work.kind lanes
 some_group work lanes some =
     let greater = max (size_of work.kind.elem) (size_of work.kind.from) in
     let positive : 0 < greater = omega (arith, size_positive work.kind.elem) in
@@ -216,11 +216,11 @@ module _ (work : VecWork) (simple : IsSimple work) (no_sum : work.kind.acc ≡ f
 -- ---- without a sum: all beats
 
 module _ (work : VecWork) (simple : IsSimple work) (no_sum : work.kind.acc ≡ false) (before : List Cell) (inside : LiesBelow (destination work) (length before)) (lanes : ℕ) (some_lanes : 0 < lanes) where
-  group_beat : (progress : Progress) (cells : List Cell) → progress.done < vector_beats work lanes → HasWritten work before cells (lane_group_at work lanes progress).row (lane_group_at work lanes progress).first → HasWritten work before (cells_after_group work lanes progress cells) (group_at work.vl (lane_group work.kind lanes) (progress.done + 1)).row (group_at work.vl (lane_group work.kind lanes) (progress.done + 1)).first
+  group_beat : (progress : Progress) (cells : List Cell) → progress.done < vector_beats work lanes → HasWritten work before cells (lane_group_at work lanes progress).row (lane_group_at work lanes progress).first → HasWritten work before (cells_after_group work lanes progress cells) (group_at work.vl (lane_group_items work.kind lanes) (progress.done + 1)).row (group_at work.vl (lane_group_items work.kind lanes) (progress.done + 1)).first
   unfolding cells_after_group after
   group_beat progress cells below so_far =
       let items = work.vl in
-      let size = lane_group work.kind lanes in
+      let size = lane_group_items work.kind lanes in
       let n = progress.done in
       let group = group_at items size n in
       let next = group_at items size (n + 1) in
@@ -237,16 +237,16 @@ module _ (work : VecWork) (simple : IsSimple work) (no_sum : work.kind.acc ≡ f
             subst (λ r. HasWritten work before after r next.first) (sym ends.0) (subst (HasWritten work before after (group.row + 1)) (sym ends.1) (next_row work simple no_sum before inside after group.row row_done))
       ]
 
-  one_beat : (progress : Progress) (cells : List Cell) → progress.done < vector_beats work lanes → HasWritten work before cells (lane_group_at work lanes progress).row (lane_group_at work lanes progress).first → HasWritten work before (vector_beat work lanes progress cells) (group_at work.vl (lane_group work.kind lanes) (progress.done + 1)).row (group_at work.vl (lane_group work.kind lanes) (progress.done + 1)).first
+  one_beat : (progress : Progress) (cells : List Cell) → progress.done < vector_beats work lanes → HasWritten work before cells (lane_group_at work lanes progress).row (lane_group_at work lanes progress).first → HasWritten work before (vector_beat work lanes progress cells) (group_at work.vl (lane_group_items work.kind lanes) (progress.done + 1)).row (group_at work.vl (lane_group_items work.kind lanes) (progress.done + 1)).first
   one_beat progress cells below so_far =
-      subst (λ after. HasWritten work before after (group_at work.vl (lane_group work.kind lanes) (progress.done + 1)).row (group_at work.vl (lane_group work.kind lanes) (progress.done + 1)).first)
+      subst (λ after. HasWritten work before after (group_at work.vl (lane_group_items work.kind lanes) (progress.done + 1)).row (group_at work.vl (lane_group_items work.kind lanes) (progress.done + 1)).first)
       (sym (cond-false work.kind.acc (cells_after_sum work lanes progress cells) (cells_after_group work lanes progress cells) no_sum))
       (group_beat progress cells below so_far)
 
-  beats_on : (count : ℕ) (progress : Progress) (store : Store) → progress.done + count ≡ vector_beats work lanes → HasWritten work before store.cells (lane_group_at work lanes progress).row (lane_group_at work lanes progress).first → HasWritten work before (after_beats count (Vector work) lanes progress store).cells (group_at work.vl (lane_group work.kind lanes) (vector_beats work lanes)).row (group_at work.vl (lane_group work.kind lanes) (vector_beats work lanes)).first
+  beats_on : (count : ℕ) (progress : Progress) (store : Store) → progress.done + count ≡ vector_beats work lanes → HasWritten work before store.cells (lane_group_at work lanes progress).row (lane_group_at work lanes progress).first → HasWritten work before (after_beats count (Vector work) lanes progress store).cells (group_at work.vl (lane_group_items work.kind lanes) (vector_beats work lanes)).row (group_at work.vl (lane_group_items work.kind lanes) (vector_beats work lanes)).first
   beats_on zero progress store all so_far =
       let end : progress.done ≡ vector_beats work lanes = omega arith in
-      subst (λ n. HasWritten work before store.cells (group_at work.vl (lane_group work.kind lanes) n).row (group_at work.vl (lane_group work.kind lanes) n).first) end so_far
+      subst (λ n. HasWritten work before store.cells (group_at work.vl (lane_group_items work.kind lanes) n).row (group_at work.vl (lane_group_items work.kind lanes) n).first) end so_far
   beats_on (suc count) progress store all so_far =
       beats_on count (progress_after work lanes progress store.cells) (record store { cells = vector_beat work lanes progress store.cells }) (omega arith)
       (one_beat progress store.cells (omega arith) so_far)
@@ -255,7 +255,7 @@ module _ (work : VecWork) (simple : IsSimple work) (no_sum : work.kind.acc ≡ f
   pub whole_without_sum : (store : Store) → store.cells ≡ before → IsWhole work before (after_beats (vector_beats work lanes) (Vector work) lanes not_begun store).cells
   whole_without_sum store is_before =
       let items = work.vl in
-      let size = lane_group work.kind lanes in
+      let size = lane_group_items work.kind lanes in
       let some = simple.counts.elements in
       let positive = some_group work lanes some_lanes in
       let beats = beats_of_row items size in
@@ -358,11 +358,11 @@ module _ (work : VecWork) (simple : IsSimple work) (with_sum : work.kind.acc ≡
 -- ---- with a sum: all beats
 
 module _ (work : VecWork) (simple : IsSimple work) (with_sum : work.kind.acc ≡ true) (before : List Cell) (inside : LiesBelow (destination work) (length before)) (lanes : ℕ) (some_lanes : 0 < lanes) where
-  sum_beat : (progress : Progress) (cells : List Cell) → progress.done < vector_beats work lanes → HasSummed work before cells progress.sum (lane_group_at work lanes progress).row (lane_group_at work lanes progress).first → HasSummed work before (cells_after_sum work lanes progress cells) (sum_left work lanes progress cells) (group_at work.vl (lane_group work.kind lanes) (progress.done + 1)).row (group_at work.vl (lane_group work.kind lanes) (progress.done + 1)).first
+  sum_beat : (progress : Progress) (cells : List Cell) → progress.done < vector_beats work lanes → HasSummed work before cells progress.sum (lane_group_at work lanes progress).row (lane_group_at work lanes progress).first → HasSummed work before (cells_after_sum work lanes progress cells) (sum_left work lanes progress cells) (group_at work.vl (lane_group_items work.kind lanes) (progress.done + 1)).row (group_at work.vl (lane_group_items work.kind lanes) (progress.done + 1)).first
   unfolding cells_after_sum sum_left after_row
   sum_beat progress cells below so_far =
       let items = work.vl in
-      let size = lane_group work.kind lanes in
+      let size = lane_group_items work.kind lanes in
       let n = progress.done in
       let group = group_at items size n in
       let next = group_at items size (n + 1) in
@@ -390,19 +390,19 @@ module _ (work : VecWork) (simple : IsSimple work) (with_sum : work.kind.acc ≡
             (subst (λ so. Reached after so next.row next.first) (sym (cond-true (leb items (group.first + group.count)) (pos 0) sum last)) there)
       ]
 
-  one_sum_beat : (progress : Progress) (cells : List Cell) → progress.done < vector_beats work lanes → HasSummed work before cells progress.sum (lane_group_at work lanes progress).row (lane_group_at work lanes progress).first → HasSummed work before (vector_beat work lanes progress cells) (progress_after work lanes progress cells).sum (group_at work.vl (lane_group work.kind lanes) (progress.done + 1)).row (group_at work.vl (lane_group work.kind lanes) (progress.done + 1)).first
+  one_sum_beat : (progress : Progress) (cells : List Cell) → progress.done < vector_beats work lanes → HasSummed work before cells progress.sum (lane_group_at work lanes progress).row (lane_group_at work lanes progress).first → HasSummed work before (vector_beat work lanes progress cells) (progress_after work lanes progress cells).sum (group_at work.vl (lane_group_items work.kind lanes) (progress.done + 1)).row (group_at work.vl (lane_group_items work.kind lanes) (progress.done + 1)).first
   one_sum_beat progress cells below so_far =
-      let next = group_at work.vl (lane_group work.kind lanes) (progress.done + 1) in
+      let next = group_at work.vl (lane_group_items work.kind lanes) (progress.done + 1) in
       subst (λ now. HasSummed work before now (progress_after work lanes progress cells).sum next.row next.first)
       (sym (cond-true work.kind.acc (cells_after_sum work lanes progress cells) (cells_after_group work lanes progress cells) with_sum))
       (subst (λ so. HasSummed work before (cells_after_sum work lanes progress cells) so next.row next.first)
       (sym (cond-true work.kind.acc (sum_left work lanes progress cells) (pos 0) with_sum))
       (sum_beat progress cells below so_far))
 
-  sum_beats_on : (count : ℕ) (progress : Progress) (store : Store) → progress.done + count ≡ vector_beats work lanes → HasSummed work before store.cells progress.sum (lane_group_at work lanes progress).row (lane_group_at work lanes progress).first → (sum : ℤ) × HasSummed work before (after_beats count (Vector work) lanes progress store).cells sum (group_at work.vl (lane_group work.kind lanes) (vector_beats work lanes)).row (group_at work.vl (lane_group work.kind lanes) (vector_beats work lanes)).first
+  sum_beats_on : (count : ℕ) (progress : Progress) (store : Store) → progress.done + count ≡ vector_beats work lanes → HasSummed work before store.cells progress.sum (lane_group_at work lanes progress).row (lane_group_at work lanes progress).first → (sum : ℤ) × HasSummed work before (after_beats count (Vector work) lanes progress store).cells sum (group_at work.vl (lane_group_items work.kind lanes) (vector_beats work lanes)).row (group_at work.vl (lane_group_items work.kind lanes) (vector_beats work lanes)).first
   sum_beats_on zero progress store all so_far =
       let end : progress.done ≡ vector_beats work lanes = omega arith in
-      (progress.sum, subst (λ n. HasSummed work before store.cells progress.sum (group_at work.vl (lane_group work.kind lanes) n).row (group_at work.vl (lane_group work.kind lanes) n).first) end so_far)
+      (progress.sum, subst (λ n. HasSummed work before store.cells progress.sum (group_at work.vl (lane_group_items work.kind lanes) n).row (group_at work.vl (lane_group_items work.kind lanes) n).first) end so_far)
   sum_beats_on (suc count) progress store all so_far =
       sum_beats_on count (progress_after work lanes progress store.cells) (record store { cells = vector_beat work lanes progress store.cells }) (omega arith)
       (one_sum_beat progress store.cells (omega arith) so_far)
@@ -410,7 +410,7 @@ module _ (work : VecWork) (simple : IsSimple work) (with_sum : work.kind.acc ≡
   pub whole_with_sum : (store : Store) → store.cells ≡ before → IsWhole work before (after_beats (vector_beats work lanes) (Vector work) lanes not_begun store).cells
   whole_with_sum store is_before =
       let items = work.vl in
-      let size = lane_group work.kind lanes in
+      let size = lane_group_items work.kind lanes in
       let some = simple.counts.elements in
       let positive = some_group work lanes some_lanes in
       let beats = beats_of_row items size in

@@ -1,14 +1,14 @@
 -- Steps of the host: it stays in its code, and one that has come to HALT stays there.
-use Rattle.std.proofs.Common.{◌≡◌, ◌≢◌, ℕ, zero, suc, ◌+◌, ◌-◌, ◌<◌, Bool, true, false, cond, eqb, ltb, List, [], ◌++◌, length, get_or, Some, None, refl, sym, ap, ◌∙◌, subst, inl, inr, arith}
+use Rattle.std.proofs.Common.{◌≡◌, ◌≢◌, ℕ, zero, suc, ◌+◌, ◌-◌, ◌<◌, Bool, true, false, cond, eqb, ltb, List, [], ◌++◌, length, get_or, Option, Some, None, refl, sym, ap, ◌∙◌, subst, inl, inr, arith}
 use Rattle.std.specs.Prelude.{replicate, slice_get}
 use Rattle.std.proofs.lemmas.Bool.{cases_lt, cond-true, cond-false}
 use Rattle.std.proofs.lemmas.List.{get_or-replicate, get_or_past, length-replicate, append-nil}
 use Rattle.std.proofs.lemmas.List.Elements.{All-get_or}
-use Rattle.std.proofs.lemmas.Option.{get_or_from_slice_get, slice_get_past}
+use Rattle.std.proofs.lemmas.Option.{get_or_from_slice_get, slice_get_past, slice_get_within}
 use Rattle.venice_isa.specs.declared.instr.Instr.{Instr}
 use Rattle.venice_isa.specs.declared.instr.Instr.TheVariants.{Halt, Li, Addi, Add, Sub, Mul, Div, Bnz, Blt, Jmp, Set, Vec, Dma, Rwait, Wwait, Vwait, Tag, Twait}
 use Rattle.venice_isa.specs.Code.{Listing, IsCode, HasTargetBelow}
-use Rattle.venice_isa.specs.Host.{Host, start, after_instr, deed_of, instr_at, deed, next, after_steps, passed_in, passed_by, is_halt, going_to, going_on, issue_list}
+use Rattle.venice_isa.specs.Host.{Host, start, after_instr, deed_of, deed_at, after_at, deed, next, after_steps, passed_in, passed_by, is_halt, going_to, going_on, issue_list}
 
 -- a list of zeros has nothing else
 pub zeros : (n r : ℕ) → ◌≡◌ {A = ℕ} (get_or (replicate n zero) r zero) zero
@@ -49,19 +49,26 @@ instr_below (Tag a) host end target here more = more (λ e. cc)
 instr_below (Twait a) host end target here more = more (λ e. cc)
 
 -- only the last place has no next one, and HALT stands there
-more_or_halt : (code : Listing) (place : ℕ) → IsCode code → place < length code.instrs → instr_at code.instrs place ≢ Halt → place + 1 < length code.instrs
-more_or_halt code place is_code within no_halt = elim (cases_lt (place + 1) (length code.instrs)) [
+more_or_halt : (code : Listing) (place : ℕ) (instr : Instr) → IsCode code → slice_get code.instrs place ≡ Some instr → instr ≢ Halt → place + 1 < length code.instrs
+more_or_halt code place instr is_code at no_halt = elim (cases_lt (place + 1) (length code.instrs)) [
   | inl lt ↦ lt
   | inr le ↦
+      let within : place < length code.instrs = slice_get_within code.instrs place instr at in
       let last : length code.instrs - 1 ≡ place = omega arith in
-      absurd (no_halt (ap (λ q. get_or code.instrs q Halt) (sym last) ∙ get_or_from_slice_get code.instrs (length code.instrs - 1) Halt Halt is_code.ends))
+      let there : get_or code.instrs place Halt ≡ instr = get_or_from_slice_get code.instrs place instr Halt at in
+      absurd (no_halt (sym there ∙ ap (λ q. get_or code.instrs q Halt) (sym last) ∙ get_or_from_slice_get code.instrs (length code.instrs - 1) Halt Halt is_code.ends))
 ]
 
+stays_at : (code : Listing) (host : Host) (at : Option Instr) → IsCode code → slice_get code.instrs host.place ≡ at → host.place < length code.instrs → (after_at at host).place < length code.instrs
+stays_at code host None is_code e within = within
+stays_at code host (Some instr) is_code e within =
+    let there : get_or code.instrs host.place Halt ≡ instr = get_or_from_slice_get code.instrs host.place instr Halt e in
+    instr_below instr host (length code.instrs)
+    (subst (HasTargetBelow (length code.instrs)) there (All-get_or (HasTargetBelow (length code.instrs)) code.instrs host.place Halt within is_code.targets)) within
+    (more_or_halt code host.place instr is_code e)
+
 pub stays_in_code : (code : Listing) (host : Host) → IsCode code → host.place < length code.instrs → (next code.instrs host).place < length code.instrs
-stays_in_code code host is_code within =
-    instr_below (instr_at code.instrs host.place) host (length code.instrs)
-    (All-get_or (HasTargetBelow (length code.instrs)) code.instrs host.place Halt within is_code.targets) within
-    (more_or_halt code host.place is_code within)
+stays_in_code code host is_code within = stays_at code host (slice_get code.instrs host.place) is_code refl within
 
 pub steps_stay_in_code : (code : Listing) (n : ℕ) (host : Host) → IsCode code → host.place < length code.instrs → (after_steps code.instrs n host).place < length code.instrs
 steps_stay_in_code code zero host is_code within = within
@@ -90,11 +97,13 @@ halts_is Vwait host e = absurd cc
 halts_is (Tag a) host e = absurd cc
 halts_is (Twait a) host e = absurd cc
 
-halted_stays : (instr : Instr) (host : Host) → is_halt (deed_of instr host) ≡ true → after_instr instr host ≡ host
-halted_stays instr host e = ap (λ i. after_instr i host) (halts_is instr host e)
+halted_stays : (at : Option Instr) (host : Host) → is_halt (deed_at at host) ≡ true → after_at at host ≡ host
+halted_stays None host e = refl
+halted_stays (Some instr) host e = ap (λ i. after_instr i host) (halts_is instr host e)
 
-halted_passes : (instr : Instr) (host : Host) → is_halt (deed_of instr host) ≡ true → passed_by (deed_of instr host) ≡ []
-halted_passes instr host e = ap (λ i. passed_by (deed_of i host)) (halts_is instr host e)
+halted_passes : (at : Option Instr) (host : Host) → is_halt (deed_at at host) ≡ true → passed_by (deed_at at host) ≡ []
+halted_passes None host e = refl
+halted_passes (Some instr) host e = ap (λ i. passed_by (deed_of i host)) (halts_is instr host e)
 
 -- a host that is at HALT after k steps is there after any more, and passes nothing more
 pub halted_for_good : (instrs : List Instr) (k more : ℕ) → is_halt (deed instrs (after_steps instrs k start)) ≡ true
@@ -106,8 +115,8 @@ halted_for_good instrs k (suc more) halts =
     let before = halted_for_good instrs k more halts in
     let count : suc more + k ≡ suc (more + k) = omega arith in
     let at = after_steps instrs k start in
-    let stays : next instrs (after_steps instrs (more + k) start) ≡ at = ap (next instrs) before.0 ∙ halted_stays (instr_at instrs at.place) at halts in
-    let nothing : passed_by (deed instrs (after_steps instrs (more + k) start)) ≡ [] = ap (λ h. passed_by (deed instrs h)) before.0 ∙ halted_passes (instr_at instrs at.place) at halts in (
+    let stays : next instrs (after_steps instrs (more + k) start) ≡ at = ap (next instrs) before.0 ∙ halted_stays (slice_get instrs at.place) at halts in
+    let nothing : passed_by (deed instrs (after_steps instrs (more + k) start)) ≡ [] = ap (λ h. passed_by (deed instrs h)) before.0 ∙ halted_passes (slice_get instrs at.place) at halts in (
       ap (λ q. after_steps instrs q start) count ∙ stays,
       ap (λ q. passed_in instrs q start) count ∙ ap (λ xs. passed_in instrs (more + k) start ++ xs) nothing ∙ append-nil (passed_in instrs (more + k) start) ∙ before.1,
     )

@@ -71,7 +71,13 @@ pub record HasBytes (operation mode types : ℕ) (kind : VecKind) : Type 0 where
 
 -- a code, bytes 1 to 3, and a number
 abbrev pub fields : (code byte1 byte2 byte3 number : ℕ) → Fields
-fields code byte1 byte2 byte3 number = record { code = code; byte1 = byte1; byte2 = byte2; byte3 = byte3; number = number }
+fields code byte1 byte2 byte3 number = record {
+  code = code;
+  byte1 = byte1;
+  byte2 = byte2;
+  byte3 = byte3;
+  number = number;
+}
 
 abbrev pub fields_of : Instr → Fields
 fields_of Halt = fields 0 0 0 0 0

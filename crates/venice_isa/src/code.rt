@@ -1,8 +1,7 @@
 //! Code: instructions that the host can run.
-ghost use Rattle.std.specs.Prelude.{◌≡◌, ◌↔◌, ◌<◌, IsSome, IfSome, IsTrue, All, length, slice_index_or};
+ghost use Rattle.std.specs.Prelude.{◌≡◌, ◌↔◌, ◌<◌, IsSome, IfSome, IsTrue, All, Some, length, slice_get};
 ghost use Rattle.venice_isa.specs.Code.{IsCode, EndsWithHalt, HasTargetBelow};
 ghost use Rattle.venice_isa.specs.Instr.{IsInstr};
-ghost use Rattle.venice_isa.specs.declared.instr.Instr.TheVariants.{Halt};
 
 use crate::instr::{Instr, Version};
 use std::marker::Model;
@@ -52,7 +51,7 @@ impl Code {
     /// The instruction at a place, which counts from 0 and is below `len`.
     pub fn instr(&self, place: u32) -> Instr
         requires { place < length self.now.instrs }
-        ensures value { result ≡ slice_index_or self.now.instrs place Halt }
+        ensures value { slice_get self.now.instrs place ≡ Some result }
         ensures is_instr { IsInstr self.now.version result }
         ensures is_code { IsCode self.now }
     {

@@ -162,7 +162,8 @@ impl HostState {
     /// Goes to `to` where the branch is taken, and else to the next instruction.
     fn branch(&mut self, is_taken: bool, to: u32)
         requires { self.old.place + 1 < 2 ^ 32 }
-        ensures { host_of self.new ≡ (if is_taken then going_to to (host_of self.old) else going_on (host_of self.old)) }
+        ensures { host_of self.new
+            ≡ (if is_taken then going_to to (host_of self.old) else going_on (host_of self.old)) }
     {
         if is_taken {
             self.place = to;

@@ -23,14 +23,12 @@ pub enum Issue {
 
 impl Issue {
     ghost use Rattle.std.specs.Prelude.{◌↔◌, IsTrue};
-    ghost use Rattle.ven_base.specs.Store.{IsInRange};
-    ghost use Rattle.venice_isa.specs.Footprint.{Reads, Writes};
+    ghost use Rattle.venice_isa.specs.Footprint.{HasFootprint};
 
     /// Whether every byte that the issue reads or writes lies in `cells` cells and `memory` bytes of memory
     /// (docs/MACHINE.md, "Footprints"). A wait touches none, and so is in range. Constant time.
     pub fn is_in_range(&self, cells: u32, memory: u32) -> bool
-        ensures { IsTrue result
-            ↔ IsInRange (Reads self.now) (Writes self.now) (record { cells = cells; memory = memory }) }
+        ensures { IsTrue result ↔ HasFootprint (record { cells = cells; memory = memory }) self.now }
     {
         match self {
             Issue::Vector(work) => work.is_in_range(cells),

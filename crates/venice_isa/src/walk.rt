@@ -3,15 +3,15 @@ ghost use Rattle.std.specs.Prelude.{◌≡◌, ◌+◌, ◌*◌, ◌<◌, ◌^�
 
 use crate::region::Region;
 
-/// A way through a region in groups of elements, row by row: where the current row and its next
-/// group begin, and how many bytes lie between two rows and between two groups. It goes on by sums
-/// alone ("Beats" of docs/MACHINE.md).
+/// A way through a region in groups of elements, row by row: the places at which the current row and its next group
+/// begin, and how many bytes lie between two rows (`step`) and between two groups. It goes on by sums alone ("Beats" of
+/// docs/MACHINE.md).
 #[derive(Clone, Copy, Debug)]
 pub struct Walk {
-    pub row: u64,
-    pub next: u64,
+    pub row_place: u64,
+    pub next_place: u64,
     pub step: u32,
-    pub group: u32,
+    pub group_bytes: u32,
 }
 
 impl Walk {
@@ -19,33 +19,36 @@ impl Walk {
 
     /// The way from the region's first element on, in groups of so many elements. A group has less
     /// than 2^32 bytes.
-    pub fn begin(region: Region, group: u32) -> Walk
-        requires { group * region.size < 2 ^ 32 }
-        ensures { IsWalk region group 0 0 result }
+    pub fn begin(region: Region, group_items: u32) -> Walk
+        requires { group_items * region.size < 2 ^ 32 }
+        ensures { IsWalk region group_items 0 0 result }
     {
         Walk {
-            row: u64::from(region.place),
-            next: u64::from(region.place),
+            row_place: u64::from(region.place),
+            next_place: u64::from(region.place),
             step: region.step,
-            group: group * region.size,
+            group_bytes: group_items * region.size,
         }
     }
 
-    /// Goes on by a whole group. Condition: `next` is below 2^63.
+    /// Goes on by a whole group. Condition: `next_place` is below 2^63.
     pub fn go_on(&mut self)
-        requires { self.old.next < 2 ^ 63 }
-        ensures { self.new ≡ record self.old { next = self.old.next + self.old.group } }
+        requires { self.old.next_place < 2 ^ 63 }
+        ensures { self.new ≡ record self.old { next_place = self.old.next_place + self.old.group_bytes } }
     {
-        self.next += u64::from(self.group);
+        self.next_place += u64::from(self.group_bytes);
     }
 
-    /// Goes on to the beginning of the next row. Condition: `row` is below 2^32.
+    /// Goes on to the beginning of the next row. Condition: `row_place` is below 2^32.
     pub fn next_row(&mut self)
-        requires { self.old.row < 2 ^ 32 }
-        ensures { self.new ≡ record self.old { row = self.old.row + self.old.step; next = self.old.row + self.old.step } }
+        requires { self.old.row_place < 2 ^ 32 }
+        ensures { self.new ≡ record self.old {
+          row_place = self.old.row_place + self.old.step;
+          next_place = self.old.row_place + self.old.step;
+        } }
     {
-        self.row += u64::from(self.step);
-        self.next = self.row;
+        self.row_place += u64::from(self.step);
+        self.next_place = self.row_place;
     }
 }
 
@@ -63,11 +66,11 @@ mod tests {
             columns: 5,
         };
         let mut walk = Walk::begin(region, 2);
-        assert_eq!(rt; (walk.row, walk.next), (10, 10));
+        assert_eq!(rt; (walk.row_place, walk.next_place), (10, 10));
         walk.go_on();
         walk.go_on();
-        assert_eq!(rt; (walk.row, walk.next), (10, 18));
+        assert_eq!(rt; (walk.row_place, walk.next_place), (10, 18));
         walk.next_row();
-        assert_eq!(rt; (walk.row, walk.next), (110, 110));
+        assert_eq!(rt; (walk.row_place, walk.next_place), (110, 110));
     }
 }

@@ -38,11 +38,11 @@ pub struct DmaWork {
 impl VecWork {
     ghost use Rattle.std.specs.Prelude.{◌≡◌, ◌<◌, ◌≤◌, ◌↔◌, IsTrue, IsFalse};
     ghost use Rattle.venice_isa.specs.Mode.{uses_b};
-    ghost use Rattle.ven_base.specs.Store.{IsInRange};
+    ghost use Rattle.ven_base.specs.Store.{cells_alone};
     ghost use Rattle.venice_isa.specs.declared.issue.Issue.TheVariants.{Vector};
     ghost use Rattle.venice_isa.specs.Region.{LiesBelow};
-    ghost use Rattle.venice_isa.specs.Footprint.{source_a, source_b, destination, written_in_row, Reads, Writes};
-    ghost use Rattle.venice_isa.specs.Beat.{beats_of_row, lane_group, vector_beats};
+    ghost use Rattle.venice_isa.specs.Footprint.{source_a, source_b, destination, written_in_row, HasFootprint};
+    ghost use Rattle.venice_isa.specs.Beat.{beats_of_row, lane_group_items, vector_beats};
 
     /// How many elements of a row are written: all `vl`, or with accumulate one, of an empty row none.
     pub fn written_in_row(&self) -> u32
@@ -129,8 +129,7 @@ impl VecWork {
     /// Whether every cell that the instruction reads or writes is one of `cells` cells (docs/MACHINE.md, "Footprints").
     /// An instruction with a count of 0 touches none, and so is in range. It touches no memory. Constant time.
     pub fn is_in_range(&self, cells: u32) -> bool
-        ensures { IsTrue result
-            ↔ IsInRange (Reads (Vector self.now)) (Writes (Vector self.now)) (record { cells = cells; memory = 0 }) }
+        ensures { IsTrue result ↔ HasFootprint (cells_alone cells) (Vector self.now) }
     {
         self.has_sources_below(cells) && self.destination().lies_below(cells)
     }
@@ -139,9 +138,9 @@ impl VecWork {
     pub fn row_beats(&self, lanes: u32) -> u32
         requires some_lanes { 0 < lanes }
         requires few_lanes { lanes ≤ 4 }
-        ensures { result ≡ beats_of_row self.now.vl (lane_group self.now.kind lanes) }
+        ensures { result ≡ beats_of_row self.now.vl (lane_group_items self.now.kind lanes) }
     {
-        self.vl.div_ceil(self.kind.group(lanes))
+        self.vl.div_ceil(self.kind.group_items(lanes))
     }
 
     /// How many beats of so many lanes, 1 to 4, the instruction takes (docs/MACHINE.md, "Beats").
@@ -156,13 +155,12 @@ impl VecWork {
 
 impl DmaWork {
     ghost use Rattle.std.specs.Prelude.{◌≡◌, ◌↔◌, IsTrue};
-    ghost use Rattle.ven_base.specs.Store.{IsInRange};
     ghost use Rattle.venice_isa.specs.declared.issue.Issue.TheVariants.{Read, Write};
-    ghost use Rattle.venice_isa.specs.Footprint.{cells_of, memory_of, Reads, Writes};
-    ghost use Rattle.venice_isa.specs.Beat.{beats_of_row, channel_group, transfer_beats};
+    ghost use Rattle.venice_isa.specs.Footprint.{cells_of, memory_of, HasFootprint};
+    ghost use Rattle.venice_isa.specs.Beat.{beats_of_row, channel_group_bytes, transfer_beats};
 
     /// How many bytes a beat of a channel moves at the most.
-    pub const GROUP: u32 = 16;
+    pub const GROUP_BYTES: u32 = 16;
 
     /// The transfer's bytes in cells.
     pub fn cells(&self) -> Region
@@ -194,19 +192,17 @@ impl DmaWork {
     /// bytes of memory on the other (docs/MACHINE.md, "Footprints"). A transfer with a count of 0 has no bytes, and so
     /// is in range. Constant time.
     pub fn is_in_range(&self, cells: u32, memory: u32) -> bool
-        ensures read { IsTrue result
-            ↔ IsInRange (Reads (Read self.now)) (Writes (Read self.now)) (record { cells = cells; memory = memory }) }
-        ensures write { IsTrue result
-            ↔ IsInRange (Reads (Write self.now)) (Writes (Write self.now)) (record { cells = cells; memory = memory }) }
+        ensures read { IsTrue result ↔ HasFootprint (record { cells = cells; memory = memory }) (Read self.now) }
+        ensures write { IsTrue result ↔ HasFootprint (record { cells = cells; memory = memory }) (Write self.now) }
     {
         self.cells().lies_below(cells) && self.memory().lies_below(memory)
     }
 
     /// How many beats of a channel a row takes, 16 bytes in each but the last.
     pub fn row_beats(&self) -> u32
-        ensures { result ≡ beats_of_row self.now.bytes channel_group }
+        ensures { result ≡ beats_of_row self.now.bytes channel_group_bytes }
     {
-        self.bytes.div_ceil(Self::GROUP)
+        self.bytes.div_ceil(Self::GROUP_BYTES)
     }
 
     /// How many beats of a channel the transfer takes (docs/MACHINE.md, "Transfers").

@@ -1,16 +1,15 @@
-use Rattle.std.proofs.Common.{◌≡◌, ℕ, ◌+◌, ◌<◌, ◌∷◌, ◌++◌, length, get_or, take, map, ap, ◌∙◌, sym, arith, vec_len, true, refl}
+use Rattle.std.proofs.Common.{◌≡◌, ◌+◌, ◌<◌, ◌∷◌, ◌++◌, length, take, map, ap, ◌∙◌, sym, arith, vec_len, refl}
 use Rattle.std.proofs.lemmas.List.{length-map}
 use Rattle.std.proofs.lemmas.Result.{IfOk-weaker}
 use Rattle.std.proofs.Math.Seq.{take-length}
-use Rattle.pass_plan.specs.Tree.{is_computed, operands_of}
-use Rattle.pass_plan.specs.Label.{least_label}
+use Rattle.pass_plan.specs.Tree.{operands_of}
 use Rattle.pass_plan.specs.Shown.{tree_of}
-use Rattle.pass_plan.specs.Numbers.{nodes_from, operand_number, inner_of}
+use Rattle.pass_plan.specs.Numbers.{nodes_from, inner_of}
 use Rattle.pass_plan.specs.NumberShown.{node_of, no_tree}
 use Rattle.pass_plan.specs.NumberSize.{size_of, no_node, node_by, size_by, held_by}
 use Rattle.pass_plan.proofs.Nodes.{nodes_all, one_more, whole, operand_number-next}
 use Rattle.pass_plan.proofs.TurnLabels.{held_at_most, node_same, size_same, sizes_more}
-use Rattle.pass_plan.proofs.Operands.{operand_smaller, computed_arity}
+use Rattle.pass_plan.proofs.Operands.{computed_arity}
 use Rattle.pass_plan.proofs.number.+number.Goals as goal
 
 pub loop-place-preserved : goal.loop-place-preserved

@@ -1,5 +1,5 @@
-use Rattle.std.proofs.Common.{◌≡◌, ℕ, ◌+◌, ◌<◌, ◌∷◌, ◌++◌, map, take, vec_len, length, true}
-use Rattle.pass_plan.specs.Tree.{is_computed, operands_of, nodes_of}
+use Rattle.std.proofs.Common.{◌≡◌, ◌+◌, ◌∷◌, ◌++◌, map, take, vec_len, length}
+use Rattle.pass_plan.specs.Tree.{operands_of, nodes_of}
 use Rattle.pass_plan.specs.Shown.{tree_of}
 use Rattle.pass_plan.specs.Numbers.{operand_number}
 use Rattle.pass_plan.specs.NumberShown.{node_of}

@@ -1,10 +1,10 @@
-use Rattle.std.proofs.Common.{◌≡◌, ◌+◌, map, ap, ◌∙◌, sym}
+use Rattle.std.proofs.Common.{◌≡◌, ◌+◌, map, ap, ◌∙◌}
 use Rattle.std.specs.Prelude.{slice_set, max}
 use Rattle.std.proofs.lemmas.List.{map-set}
 use Rattle.pass_plan.specs.Label.{needed}
 use Rattle.pass_plan.specs.Numbers.{Node}
 use Rattle.pass_plan.specs.NumberShown.{node_of}
-use Rattle.pass_plan.specs.NumberSize.{node_by, total_inner}
+use Rattle.pass_plan.specs.NumberSize.{node_by}
 use Rattle.pass_plan.proofs.number.put.Goals as goal
 
 pub returns-clause-nodes : goal.returns-clause-nodes

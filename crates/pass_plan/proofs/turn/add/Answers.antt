@@ -1,4 +1,4 @@
-use Rattle.std.proofs.Common.{◌≡◌, ap, ◌∙◌, sym}
+use Rattle.std.proofs.Common.{ap, ◌∙◌}
 use Rattle.std.specs.Prelude.{insert}
 use Rattle.pass_plan.specs.NumberSize.{turns_above}
 use Rattle.pass_plan.proofs.Turns.{insert_is}

@@ -1,6 +1,6 @@
 use Rattle.std.proofs.Common.{◌≡◌, ◌∙◌, ◌<◌, ◌++◌, ◌+◌, ℕ, suc, ap, sym, subst, Some, arith}
 use Rattle.std.specs.Prelude.{length}
-use Rattle.venice_isa.specs.Host.{Host, deed, deed_of, after_steps, start, is_halt, next, after_instr, passed_by, passed_in}
+use Rattle.venice_isa.specs.Host.{Host, deed, deed_at, after_at, after_steps, start, is_halt, next, passed_by, passed_in}
 use Rattle.venice_isa.specs.HostState.{host_of}
 use Rattle.venice_isa.proofs.HostSteps.{issue_list_found, no_issue_list, goes_on_more, stays_in_code}
 use Rattle.venice_isa.proofs.issue_list.issues.Goals as goal
@@ -9,7 +9,7 @@ pub returns-then-is_halt-clause-list : goal.returns-then-is_halt-clause-list
 returns-then-is_halt-clause-list c =
     let instrs = c.args.code.now.instrs in
     let k = c.loop.counter in
-    let deed_is : c.deed_of-deed.result ≡ deed instrs (after_steps instrs k start) = c.deed_of-deed.ensures ∙ ap (λ i. deed_of i (host_of c.loop.host)) c.instr-instr.ensures.value ∙ ap (deed instrs) c.loop.invariant.host in
+    let deed_is : c.deed_of-deed.result ≡ deed instrs (after_steps instrs k start) = c.deed_of-deed.ensures ∙ ap (λ i. deed_at i (host_of c.loop.host)) (sym c.instr-instr.ensures.value) ∙ ap (deed instrs) c.loop.invariant.host in
     issue_list_found instrs k c.args.budget (omega arith) (sym (ap is_halt deed_is) ∙ sym c.is_halt.ensures ∙ c.if-is_halt.true)
     ∙ ap (λ xs. Some xs) (sym c.loop.invariant.list)
 
@@ -19,8 +19,8 @@ loop-preserved c =
     let instrs = code.instrs in
     let k = c.loop.counter in
     let host = host_of c.loop.host in
-    let deed_is : c.deed_of-deed.result ≡ deed instrs (after_steps instrs k start) = c.deed_of-deed.ensures ∙ ap (λ i. deed_of i host) c.instr-instr.ensures.value ∙ ap (deed instrs) c.loop.invariant.host in
-    let went : host_of c.advance_by.new.self ≡ next instrs host = c.advance_by.ensures ∙ ap (λ i. after_instr i host) c.instr-instr.ensures.value in
+    let deed_is : c.deed_of-deed.result ≡ deed instrs (after_steps instrs k start) = c.deed_of-deed.ensures ∙ ap (λ i. deed_at i host) (sym c.instr-instr.ensures.value) ∙ ap (deed instrs) c.loop.invariant.host in
+    let went : host_of c.advance_by.new.self ≡ next instrs host = c.advance_by.ensures ∙ ap (λ i. after_at i host) (sym c.instr-instr.ensures.value) in
     let one_more : k + 1 ≡ suc k = omega arith in
     let P : ℕ → Type 0 = λ p. p < length instrs in
     record {

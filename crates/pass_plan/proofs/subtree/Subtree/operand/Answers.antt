@@ -1,4 +1,4 @@
-use Rattle.std.proofs.Common.{◌≡◌, ℕ, ◌+◌, ◌<◌, length, get_or, take, drop, ◌++◌, map, ap, ◌∙◌, sym, arith}
+use Rattle.std.proofs.Common.{◌≡◌, ◌+◌, ◌<◌, length, get_or, take, drop, ◌++◌, map, ap, ◌∙◌, sym, arith}
 use Rattle.pass_plan.specs.Tree.{operands_of}
 use Rattle.pass_plan.specs.Shown.{tree_of}
 use Rattle.pass_plan.specs.Numbers.{inner_of, nodes_from, operand_number}

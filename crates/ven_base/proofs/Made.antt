@@ -8,8 +8,7 @@ use Rattle.std.proofs.lemmas.List.FromFn.{length-map-range_with_len, get_or-map-
 use Rattle.ven_base.specs.declared.elem.Elem.{Elem}
 use Rattle.ven_base.specs.Elem.{IsElement}
 use Rattle.ven_base.specs.Extent.{Extent, IsExtent, IsIndex, elements_of}
-use Rattle.ven_base.specs.Grid.{IsGrid, value_at}
-use Rattle.pass_plan.specs.Pass.{row_values, values_with, grid_with}
+use Rattle.ven_base.specs.Grid.{IsGrid, value_at, row_values, values_with, grid_with}
 
 -- ---- a row
 
