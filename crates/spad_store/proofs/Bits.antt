@@ -1,5 +1,5 @@
 -- Single bits of numbers.
-use Rattle.std.proofs.Common.{◌≡◌, ℕ, zero, suc, ◌+◌, ◌-◌, ◌*◌, ◌/◌, ◌%◌, ◌^◌, ◌<◌, ◌≤◌, ap, sym, subst, refl, ◌∙◌, arith, min, max, List, get_or, length, w64, true, false}
+use Rattle.std.proofs.Common.{◌≡◌, ℕ, zero, suc, ◌+◌, ◌-◌, ◌*◌, ◌/◌, ◌%◌, ◌^◌, ◌<◌, ◌≤◌, ap, sym, subst, refl, ◌∙◌, arith, min, max, get_or, length, w64, true, false}
 use Rattle.std.specs.Prelude.{◌==◌, Bool}
 use mir.Val.{bool_byte}
 use Rattle.std.specs.Prelude.{bit_and, bit_or}

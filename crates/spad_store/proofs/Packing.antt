@@ -1,14 +1,14 @@
 -- The cells that bytes and words of flags stand for.
-use Rattle.std.proofs.Common.{◌≡◌, ℕ, zero, suc, ◌+◌, ◌-◌, ◌*◌, ◌/◌, ◌%◌, ◌<◌, ◌≤◌, inl, inr, ap, sym, subst, ◌∙◌, refl, arith, List, [], ◌∷◌, ◌++◌, length, map, take, drop, set, get_or, replicate, true, false}
+use Rattle.std.proofs.Common.{◌≡◌, ℕ, zero, suc, ◌+◌, ◌-◌, ◌*◌, ◌/◌, ◌%◌, ◌<◌, ◌≤◌, inl, inr, ap, sym, subst, ◌∙◌, refl, arith, List, [], ◌∷◌, ◌++◌, length, map, take, drop, set, get_or, replicate, false}
 use Rattle.std.specs.Prelude.{Bool, ◌⊎◌}
 use Rattle.std.specs.List.{zip}
 use Rattle.std.proofs.lemmas.Bool.{cases_eq, cases_lt}
 use Rattle.std.proofs.lemmas.List.{ext_get_or, length-set, get_or-set_same, get_or-set_other, length-replicate, get_or-replicate, length-take-le, length-drop, length-map, length-append, get_or_append_left, get_or_past, get_or_read, get_or-append_right, get_or-take, get_or-drop, get_or-map}
 use Rattle.std.proofs.lemmas.Slice.Zip.{get_or-zip, length-zip}
 use Rattle.ven_base.specs.Cell.{Cell}
-use Rattle.spad_store.specs.Cells.{bytes_from, flags_from, with_bytes, with_flags, flags_of}
+use Rattle.spad_store.specs.Cells.{bytes_from, flags_from, with_bytes, with_flags}
 use Rattle.spad_store.specs.Packed.{has_bit, flag_in, cells_from, HasPut}
-use Rattle.spad_store.proofs.Bits.{no_ones, length_flags_of, flag_of_bit}
+use Rattle.spad_store.proofs.Bits.{no_ones}
 use Rattle.spad_store.proofs.Words.{flag_is_bit}
 
 abbrev empty : Cell

@@ -1,14 +1,13 @@
 -- Flags in words: what a change of one word, and one change after another, does to them.
-use Rattle.std.proofs.Common.{◌≡◌, ℕ, ◌+◌, ◌-◌, ◌*◌, ◌/◌, ◌%◌, ◌^◌, ◌<◌, ◌≤◌, ◌≢◌, inl, inr, ap, sym, subst, ◌∙◌, refl, arith, List, length, set, get_or}
+use Rattle.std.proofs.Common.{◌≡◌, ℕ, ◌+◌, ◌-◌, ◌/◌, ◌%◌, ◌<◌, ◌≤◌, ◌≢◌, inl, inr, ap, sym, subst, ◌∙◌, refl, arith, List, length, set, get_or}
 use Rattle.std.proofs.lemmas.Bool.{cases_eq, cases_lt}
 use Rattle.std.specs.Prelude.{Bool}
 use mir.Val.{bool_byte}
 use Rattle.std.specs.Global.{Vec}
 use Rattle.std.specs.Vec.{with_items}
-use Rattle.std.specs.Int.{bit_at}
 use Rattle.std.proofs.lemmas.List.{length-set, get_or-set_same, get_or-set_other, with_items_is}
 use Rattle.spad_store.specs.Packed.{has_bit, flag_in, HasPut}
-use Rattle.spad_store.proofs.Bits.{same_bit, one_flag}
+use Rattle.spad_store.proofs.Bits.{one_flag}
 
 -- a flag is a bit of its word
 pub flag_is_bit : (words : List ℕ) (place at i : ℕ) → place / 64 ≡ at → place % 64 ≡ i → flag_in words place ≡ has_bit (get_or words at 0) i

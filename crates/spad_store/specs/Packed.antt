@@ -1,5 +1,5 @@
 -- Inner: how the scratchpad keeps its cells: the bytes in one list, the flags in words of 64 bits.
-use Rattle.std.specs.Prelude.{◌≡◌, ℕ, ◌+◌, ◌-◌, ◌*◌, ◌/◌, ◌%◌, ◌<◌, ◌≤◌, ◌^◌, ◌==◌, ◌⊎◌, Bool, List, [], ◌∷◌, length, slice_index_or}
+use Rattle.std.specs.Prelude.{◌≡◌, ℕ, ◌+◌, ◌/◌, ◌%◌, ◌<◌, ◌≤◌, ◌==◌, Bool, List, [], ◌∷◌, length, slice_index_or}
 use Rattle.std.specs.Int.{bit_at}
 use Rattle.ven_base.specs.Cell.{Cell}
 use Rattle.spad_store.specs.Sizes.{IsSpadSize}

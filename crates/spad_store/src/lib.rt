@@ -8,10 +8,12 @@
 
 mod flags;
 mod memory;
+mod overtaking;
 mod spad;
 mod unit;
 
 pub use memory::MainMem;
+pub use overtaking::Overtaking;
 pub use spad::Spad;
 pub use unit::Unit;
 

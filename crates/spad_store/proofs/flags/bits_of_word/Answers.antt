@@ -1,4 +1,4 @@
-use Rattle.std.proofs.Common.{◌∙◌, ap, sym, ◌-◌, ◌+◌, ◌/◌, ◌%◌, ◌^◌, ◌≡◌, arith, get_or, refl}
+use Rattle.std.proofs.Common.{◌∙◌, ap, sym, ◌+◌, ◌/◌, ◌%◌, ◌^◌, ◌≡◌, arith, get_or}
 use Rattle.std.specs.Prelude.{bit_and}
 use Rattle.std.proofs.lemmas.Nat.{and_mask}
 use Rattle.spad_store.proofs.Bits.{bit_of_rest, bit_behind, same_bit}

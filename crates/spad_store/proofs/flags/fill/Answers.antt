@@ -1,6 +1,6 @@
 use Rattle.std.proofs.Common.{arith}
 use Rattle.spad_store.specs.Packed.{has_bit}
-use Rattle.spad_store.proofs.Words.{put_nothing, put_same, put_both}
+use Rattle.spad_store.proofs.Words.{put_both}
 use Rattle.spad_store.proofs.flags.fill.Goals as goal
 
 pub loop-done-preserved : goal.loop-done-preserved

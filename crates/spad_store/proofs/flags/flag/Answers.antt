@@ -1,4 +1,4 @@
-use Rattle.std.proofs.Common.{◌∙◌, ap, ◌/◌, ◌%◌, get_or}
+use Rattle.std.proofs.Common.{ap, ◌/◌, ◌%◌, get_or}
 use Rattle.std.specs.Prelude.{◌==◌}
 use Rattle.std.proofs.lemmas.Nat.Bits.{shr_and_one}
 use Rattle.spad_store.specs.Packed.{has_bit, flag_in}

@@ -1,4 +1,4 @@
-use Rattle.std.proofs.Common.{arith, ap, ◌∙◌, ◌+◌, length, false}
+use Rattle.std.proofs.Common.{arith, ap, ◌∙◌, ◌+◌, false}
 use Rattle.spad_store.specs.Cells.{flags_of, flags_from}
 use Rattle.spad_store.specs.Packed.{flag_in}
 use Rattle.spad_store.proofs.Bits.{length_flags_of, flag_of_bit}
