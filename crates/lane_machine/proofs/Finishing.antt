@@ -8,11 +8,11 @@ use Rattle.ven_base.specs.Job.{Job, HasBeatsLeft, IsReady, beats_left, next_stor
 use Rattle.ven_base.proofs.Jobs.{all_left, left_after, finished_beaten, works_beaten, left_beaten, beats_on_as}
 use Rattle.venice_isa.specs.declared.work.VecWork.{VecWork}
 use Rattle.venice_isa.specs.declared.issue.Issue.TheVariants.{Vector}
-use Rattle.venice_isa.specs.Footprint.{Reads, Writes}
+use Rattle.venice_isa.specs.Footprint.{HasFootprint, Reads, Writes}
 use Rattle.venice_isa.specs.Whole.{IsSimple, IsWhole}
 use Rattle.venice_isa.specs.Beat.{Progress, not_begun, vector_beats, course_of, after_all_beats}
 use Rattle.venice_isa.proofs.Beats.{beats_do_it, memory_stays}
-use Rattle.lane_machine.specs.State.{State, lane_course, LiesIn}
+use Rattle.lane_machine.specs.State.{State, lane_course}
 use Rattle.lane_machine.specs.Laws.{next_beat_keeps}
 use Rattle.lane_machine.proofs.Kept.{all_counted}
 
@@ -45,18 +45,18 @@ begins_finishing before first job rest is more = record {
 }
 
 -- what lies in the first store lies in the later ones
-lies_later : (first store : Store) (job other : Job VecWork Progress) → LiesIn first job → store_size store ≡ store_size first → other.work ≡ job.work → LiesIn store other
+lies_later : (first store : Store) (job other : Job VecWork Progress) → HasFootprint (store_size first) (Vector job.work) → store_size store ≡ store_size first → other.work ≡ job.work → HasFootprint (store_size store) (Vector other.work)
 lies_later first store job other inside size work =
     subst (λ w. IsInRange (Reads (Vector w)) (Writes (Vector w)) (store_size store)) (sym work) (subst (IsInRange (Reads (Vector job.work)) (Writes (Vector job.work))) (sym size) inside)
 
-all_lie_later : (first store : Store) (jobs : List (Job VecWork Progress)) → store_size store ≡ store_size first → All (LiesIn first) jobs → All (LiesIn store) jobs
-all_lie_later first store [] size inside = All-nil (LiesIn store)
-all_lie_later first store (job ∷ jobs) size inside = All-cons (LiesIn store) job jobs (lies_later first store job job (All-head (LiesIn first) job jobs inside) size refl) (all_lie_later first store jobs size (All-tail (LiesIn first) job jobs inside))
+all_lie_later : (first store : Store) (jobs : List (Job VecWork Progress)) → store_size store ≡ store_size first → All (λ (each : Job VecWork Progress). HasFootprint (store_size first) (Vector each.work)) jobs → All (λ (each : Job VecWork Progress). HasFootprint (store_size store) (Vector each.work)) jobs
+all_lie_later first store [] size inside = All-nil (λ (each : Job VecWork Progress). HasFootprint (store_size store) (Vector each.work))
+all_lie_later first store (job ∷ jobs) size inside = All-cons (λ (each : Job VecWork Progress). HasFootprint (store_size store) (Vector each.work)) job jobs (lies_later first store job job (All-head (λ (each : Job VecWork Progress). HasFootprint (store_size first) (Vector each.work)) job jobs inside) size refl) (all_lie_later first store jobs size (All-tail (λ (each : Job VecWork Progress). HasFootprint (store_size first) (Vector each.work)) job jobs inside))
 
-left_lie : (first store : Store) (job : Job VecWork Progress) (left : List (Job VecWork Progress)) → LiesIn first job → store_size store ≡ store_size first → All (λ left. left.work ≡ job.work) left → All (LiesIn store) left
-left_lie first store job [] inside size works = All-nil (LiesIn store)
+left_lie : (first store : Store) (job : Job VecWork Progress) (left : List (Job VecWork Progress)) → HasFootprint (store_size first) (Vector job.work) → store_size store ≡ store_size first → All (λ left. left.work ≡ job.work) left → All (λ (each : Job VecWork Progress). HasFootprint (store_size store) (Vector each.work)) left
+left_lie first store job [] inside size works = All-nil (λ (each : Job VecWork Progress). HasFootprint (store_size store) (Vector each.work))
 left_lie first store job (x ∷ left) inside size works =
-    All-cons (LiesIn store) x left (lies_later first store job x inside size (All-head (λ left. left.work ≡ job.work) x left works)) (left_lie first store job left inside size (All-tail (λ left. left.work ≡ job.work) x left works))
+    All-cons (λ (each : Job VecWork Progress). HasFootprint (store_size store) (Vector each.work)) x left (lies_later first store job x inside size (All-head (λ left. left.work ≡ job.work) x left works)) (left_lie first store job left inside size (All-tail (λ left. left.work ≡ job.work) x left works))
 
 -- where beats are left of each job and of all together none, there is no job
 none_left : (lanes : ℕ) (left : List (Job VecWork Progress)) → All (HasBeatsLeft (lane_course lanes)) left → all_left (lane_course lanes) left ≡ 0 → left ≡ []
@@ -65,13 +65,13 @@ none_left lanes (job ∷ left) more none = absurd (omega (arith, All-head (HasBe
 
 module _ (before : State) (first : Store) (job : Job VecWork Progress) (rest : List (Job VecWork Progress)) (count : ℕ) (now : State) (store : Store) (so_far : IsFinishing before first job rest count now store) where
   -- all jobs lie in the store
-  pub finishing_inside : LiesIn first job → All (LiesIn first) rest → All (LiesIn store) now.jobs
+  pub finishing_inside : HasFootprint (store_size first) (Vector job.work) → All (λ (each : Job VecWork Progress). HasFootprint (store_size first) (Vector each.work)) rest → All (λ (each : Job VecWork Progress). HasFootprint (store_size store) (Vector each.work)) now.jobs
   finishing_inside inside inside_rest =
-      subst (All (LiesIn store)) (sym so_far.jobs_are)
-      (All-append (LiesIn store) so_far.left rest (left_lie first store job so_far.left inside so_far.same_size so_far.works) (all_lie_later first store rest so_far.same_size inside_rest))
+      subst (All (λ (each : Job VecWork Progress). HasFootprint (store_size store) (Vector each.work))) (sym so_far.jobs_are)
+      (All-append (λ (each : Job VecWork Progress). HasFootprint (store_size store) (Vector each.work)) so_far.left rest (left_lie first store job so_far.left inside so_far.same_size so_far.works) (all_lie_later first store rest so_far.same_size inside_rest))
 
   -- a beat more
-  module _ (some_lanes : 0 < before.lanes) (inside : LiesIn first job) (more_beats : count < beats_left (lane_course before.lanes) job) (next : State) (after : Store)
+  module _ (some_lanes : 0 < before.lanes) (inside : HasFootprint (store_size first) (Vector job.work)) (more_beats : count < beats_left (lane_course before.lanes) job) (next : State) (after : Store)
       (same_lanes : next.lanes ≡ now.lanes) (jobs_are : next.jobs ≡ jobs_beaten (lane_course now.lanes) 0 now.jobs store) (store_is : after ≡ store_beaten (lane_course now.lanes) 0 now.jobs store) where
     step : (left : List (Job VecWork Progress)) → now.jobs ≡ left ++ rest → All (λ left. left.work ≡ job.work) left → All (HasBeatsLeft (lane_course before.lanes)) left → all_left (lane_course before.lanes) left + count ≡ beats_left (lane_course before.lanes) job
         → all_finished (lane_course before.lanes) left store ≡ finished (lane_course before.lanes) job first → IsFinishing before first job rest (count + 1) next after
@@ -119,7 +119,7 @@ finished_memory lanes job first =
     ∙ memory_stays job.work lanes (beats_left (lane_course lanes) job) job.progress first
 
 -- and the beats of a simple instruction are its whole effect
-pub finished_whole : (lanes : ℕ) (job : Job VecWork Progress) (first : Store) → 0 < lanes → LiesIn first job → job.progress ≡ not_begun → IsSimple job.work → IsWhole job.work first.cells (finished (lane_course lanes) job first).cells
+pub finished_whole : (lanes : ℕ) (job : Job VecWork Progress) (first : Store) → 0 < lanes → HasFootprint (store_size first) (Vector job.work) → job.progress ≡ not_begun → IsSimple job.work → IsWhole job.work first.cells (finished (lane_course lanes) job first).cells
 unfolding after_all_beats
 finished_whole lanes job first some inside begins simple =
     let all : vector_beats job.work lanes - 0 ≡ vector_beats job.work lanes = omega arith in

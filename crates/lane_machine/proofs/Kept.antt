@@ -4,14 +4,14 @@ use Rattle.std.specs.Prelude.{slice_get, Option, All, IfSome}
 use Rattle.std.proofs.lemmas.List.{length-map, map-append}
 use Rattle.std.proofs.lemmas.List.Elements.{All-cons, All-nil, All-map}
 use Rattle.circular_buffer.specs.Buffer.{Buffer}
-use Rattle.ven_base.specs.Store.{Place, in_cells, in_memory, Store, Size, HasPlace, IsInRange}
+use Rattle.ven_base.specs.Store.{cells_alone, Place, in_cells, in_memory, Store, Size, HasPlace, IsInRange}
 use Rattle.ven_base.specs.Job.{Job, new_job, next_job, works_of, jobs_beaten}
 use Rattle.ven_base.proofs.Jobs.{comes_on, is_over}
 use Rattle.spad_store.specs.Queue.{IsQueue}
 use Rattle.spad_store.proofs.Queues.{All-first, queue_offered, queue_beaten}
 use Rattle.venice_isa.specs.declared.work.VecWork.{VecWork}
 use Rattle.venice_isa.specs.declared.issue.Issue.TheVariants.{Vector}
-use Rattle.venice_isa.specs.Footprint.{Reads, Writes}
+use Rattle.venice_isa.specs.Footprint.{HasFootprint, Reads, Writes}
 use Rattle.venice_isa.specs.Whole.{HasCounts}
 use Rattle.venice_isa.specs.Beat.{Progress, not_begun, vector_beats, progress_after}
 use Rattle.venice_isa.proofs.OneBeat.{some_vector_beat}
@@ -20,27 +20,26 @@ use Rattle.lane_machine.specs.declared.current.Current.{Current}
 use Rattle.lane_machine.specs.Current.{progress_of, IsUnderWay}
 use Rattle.lane_machine.specs.State.{lane_course}
 use Rattle.lane_machine.specs.Lanes.{progress_in, jobs_of, IsFront, IsLanes}
-use Rattle.lane_machine.specs.Group.{IsInside}
 
 -- what lies in a store lies in its cells
-pub inside_of_cells : (work : VecWork) (size : Size) → IsInRange (Reads (Vector work)) (Writes (Vector work)) size → IsInside work size.cells
+pub inside_of_cells : (work : VecWork) (size : Size) → IsInRange (Reads (Vector work)) (Writes (Vector work)) size → HasFootprint (cells_alone size.cells) (Vector work)
 inside_of_cells work size in_range = in_any_memory work size in_range 0
 
 -- what lies in few cells lies in those of 32 bits
 most_cells : Size
 most_cells = record { cells = 2 ^ 32; memory = 0 }
 
-reads_below_most : (work : VecWork) (cells : ℕ) → IsInside work cells → cells < 2 ^ 32 → (place : Place) → Reads (Vector work) place → HasPlace most_cells place
+reads_below_most : (work : VecWork) (cells : ℕ) → HasFootprint (cells_alone cells) (Vector work) → cells < 2 ^ 32 → (place : Place) → Reads (Vector work) place → HasPlace most_cells place
 unfolding most_cells
 reads_below_most work cells inside small (in_cells p) read = omega (arith, inside.has_reads (in_cells p) read)
 reads_below_most work cells inside small (in_memory p) read = absurd read
 
-writes_below_most : (work : VecWork) (cells : ℕ) → IsInside work cells → cells < 2 ^ 32 → (place : Place) → Writes (Vector work) place → HasPlace most_cells place
+writes_below_most : (work : VecWork) (cells : ℕ) → HasFootprint (cells_alone cells) (Vector work) → cells < 2 ^ 32 → (place : Place) → Writes (Vector work) place → HasPlace most_cells place
 unfolding most_cells
 writes_below_most work cells inside small (in_cells p) written = omega (arith, inside.has_writes (in_cells p) written)
 writes_below_most work cells inside small (in_memory p) written = absurd written
 
-pub inside_of_32_bits : (work : VecWork) (cells : ℕ) → IsInside work cells → cells < 2 ^ 32 → IsInside work (2 ^ 32)
+pub inside_of_32_bits : (work : VecWork) (cells : ℕ) → HasFootprint (cells_alone cells) (Vector work) → cells < 2 ^ 32 → HasFootprint (cells_alone (2 ^ 32)) (Vector work)
 unfolding most_cells
 inside_of_32_bits work cells inside small = record { has_reads = reads_below_most work cells inside small; has_writes = writes_below_most work cells inside small }
 

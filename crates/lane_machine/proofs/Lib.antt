@@ -6,6 +6,7 @@ pub mod Currents
 pub mod Groups
 pub mod Spelled
 pub mod Flagged
+pub mod Spread
 pub mod Writing
 pub mod Beats
 pub mod Kept

@@ -13,13 +13,13 @@ use Rattle.venice_isa.specs.Walk.{IsWalk}
 use Rattle.venice_isa.proofs.Walks.{walk_on, walk_next_row, walk_row, walk_place, walk_fits}
 use Rattle.lane_machine.specs.declared.operand.Operand.{Operand}
 use Rattle.lane_machine.specs.declared.operand.Operand.TheVariants.{Number, Elements}
-use Rattle.lane_machine.specs.Operand.{number_in, flag_in, EndsBelow, IsOperand, CanGoOn, CanTurn, a_group_on, at_next_row}
+use Rattle.lane_machine.specs.Operand.{number_in, flag_in, end_in, IsOperand, CanGoOn, CanTurn, a_group_on, at_next_row}
 
 module _ (number : ℤ) (is_number : Bool) (region : Region) (group row first : ℕ) where
   -- ---- what it gives
 
   module _ (elem : Elem) (size : region.size ≡ size_of elem) where
-    next_element : (walk : _) → IsWalk region group row first walk → (k : ℕ) → walk.next + k * size_of elem ≡ place_in region row (first + k)
+    next_element : (walk : _) → IsWalk region group row first walk → (k : ℕ) → walk.next_place + k * size_of elem ≡ place_in region row (first + k)
     next_element walk is k =
         let sizes : k * region.size ≡ k * size_of elem = ap (λ n. k * n) size in
         omega (arith, sizes, walk_place region group row first walk is k)
@@ -36,12 +36,12 @@ module _ (number : ℤ) (is_number : Bool) (region : Region) (group row first : 
     operand_flag (Number n) is vector cells k = cc
     operand_flag (Elements walk) is vector cells k = ap (flag_at cells) (next_element walk is.1 k)
 
-    pub operand_ends : (operand : Operand) → IsOperand number is_number region group row first operand → (count end : ℕ) → (is_number ≡ false → place_in region row first + count * region.size ≤ end) → EndsBelow elem operand count end
-    operand_ends (Number n) is count end below = tt
+    pub operand_ends : (operand : Operand) → IsOperand number is_number region group row first operand → (count end : ℕ) → (is_number ≡ false → place_in region row first + count * region.size ≤ end) → end_in elem operand count ≤ end
+    operand_ends (Number n) is count end below = omega arith
     operand_ends (Elements walk) is count end below =
         let sizes : count * region.size ≡ count * size_of elem = ap (λ n. count * n) size in
         let walk_is = is.1 in
-        omega (arith, sizes, below is.0, walk_is.next_is)
+        omega (arith, sizes, below is.0, walk_is.next_place_is)
 
   -- ---- how it goes on
 

@@ -1,10 +1,8 @@
 -- The lanes as their callers see them.
 use Rattle.std.specs.Prelude.{ℕ, List}
-use Rattle.ven_base.specs.Store.{Store, store_size, IsInRange}
 use Rattle.ven_base.specs.Job.{Job, Course, course_as}
 use Rattle.venice_isa.specs.declared.work.VecWork.{VecWork}
 use Rattle.venice_isa.specs.declared.issue.Issue.TheVariants.{Vector}
-use Rattle.venice_isa.specs.Footprint.{Reads, Writes}
 use Rattle.venice_isa.specs.Beat.{Progress, course_of}
 
 -- the unfinished works with their progress, the current one first, and how many lanes there are
@@ -15,7 +13,3 @@ pub record State : Type 0 where
 -- how vector instructions go on so many lanes
 abbrev pub lane_course : ℕ → Course VecWork Progress
 lane_course lanes = course_as Vector (course_of lanes)
-
--- a job's work lies in this store
-abbrev pub LiesIn : Store → Job VecWork Progress → Type 0
-LiesIn store job = IsInRange (Reads (Vector job.work)) (Writes (Vector job.work)) (store_size store)

@@ -12,7 +12,8 @@ use venice_isa::{VecKind, sets_flag};
 
 /// The flags that an instruction's results set.
 pub(crate) fn flags_for(kind: VecKind, results: &Bytes) -> u64
-    ensures { HasFlags kind.elem (16 / size_of kind.elem) (λ k. flag_for kind (element_in kind.elem results.now k)) result }
+    ensures { HasFlags kind.elem (16 / size_of kind.elem)
+        (λ k. flag_for kind (element_in kind.elem results.now k)) result }
 {
     match kind.elem {
         Elem::U8 => flags_of::<TypeU8>(kind, results),
@@ -41,13 +42,18 @@ fn flags_of<E: Element>(kind: VecKind, results: &Bytes) -> u64
 pub(crate) fn whole_elements(elem: Elem, first: u64) -> u64
     ensures { HasFlags elem (16 / size_of elem) (λ k. has_bit first (k * size_of elem)) result }
 {
-    let size = elem.size();
-    let mut bits = 0;
-    for k in 0..16 / size {
-        let flag = (first >> (k * size)) & 1 == 1;
-        bits = with_element(elem, bits, k, flag);
+    match elem {
+        Elem::U8 | Elem::I8 => first & 0xffff,
+        Elem::U16 | Elem::I16 => {
+            let bits = first & 0x5555;
+            bits | (bits << 1)
+        }
+        Elem::U32 | Elem::I32 => {
+            let bits = first & 0x1111;
+            let pairs = bits | (bits << 1);
+            pairs | (pairs << 2)
+        }
     }
-    bits
 }
 
 /// The bits with those of one element more, which has this flag.

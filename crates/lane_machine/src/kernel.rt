@@ -5,7 +5,7 @@ ghost use Rattle.venice_isa.specs.declared.op.VecOp.TheVariants.{Cast};
 ghost use Rattle.lane_machine.specs.Elements.{element_in, wider, HasSpelled};
 
 use crate::element::{
-    Bytes, Element, TypeI8, TypeI16, TypeI32, TypeU8, TypeU16, TypeU32, number, put,
+    Bytes, Element, MOST_BYTES, TypeI8, TypeI16, TypeI32, TypeU8, TypeU16, TypeU32, number, put,
 };
 use ven_base::{Elem, bits_of};
 use venice_isa::{VecKind, VecOp, answer_of};
@@ -87,7 +87,9 @@ fn by_operation<E: Element>(op: VecOp, a: &Bytes, b: &Bytes, results: &mut Bytes
     }
 }
 
-/// One operation at each element, from numbers of one type to numbers of another or the same.
+/// One operation at each element, from numbers of one type to numbers of another or the same. The
+/// answers are the caller's once all are there: nothing of A and B can change before, as far as the
+/// compiler sees, and it takes several elements at once.
 #[inline(always)]
 fn each<F: Element, E: Element>(op: VecOp, a: &Bytes, b: &Bytes, results: &mut Bytes)
     requires one_type { op ≢ Cast → F.ELEM ≡ E.ELEM }
@@ -95,8 +97,10 @@ fn each<F: Element, E: Element>(op: VecOp, a: &Bytes, b: &Bytes, results: &mut B
         (λ k. answer_of op E.ELEM (element_in F.ELEM a.now k) (element_in E.ELEM b.now k)) results.new }
 {
     let (elem, from) = (E::ELEM, F::ELEM);
+    let mut answers = [0; MOST_BYTES];
     for k in 0..16 / elem.size().max(from.size()) {
         let n = answer_of(op, elem, number(from, a, k), number(elem, b, k));
-        put(elem, results, k, bits_of(elem, n));
+        put(elem, &mut answers, k, bits_of(elem, n));
     }
+    *results = answers;
 }

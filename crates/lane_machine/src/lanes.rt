@@ -1,11 +1,13 @@
 //! The unit of the vector instructions.
 ghost use Rattle.std.specs.Prelude.{◌≡◌, ◌<◌, ◌≤◌, [], length, drop, All, IfSome, IfOk, slice_get};
-ghost use Rattle.ven_base.specs.Store.{store_of};
+ghost use Rattle.ven_base.specs.Store.{store_size, store_of};
 ghost use Rattle.ven_base.specs.Job.{beats_left, finished};
 ghost use Rattle.spad_store.specs.Queue.{IsQueue};
+ghost use Rattle.venice_isa.specs.declared.issue.Issue.TheVariants.{Vector};
+ghost use Rattle.venice_isa.specs.Footprint.{HasFootprint};
 ghost use Rattle.venice_isa.specs.Whole.{HasCounts, IsSimple, IsWhole};
 ghost use Rattle.venice_isa.specs.Beat.{not_begun};
-ghost use Rattle.lane_machine.specs.State.{LiesIn, lane_course};
+ghost use Rattle.lane_machine.specs.State.{lane_course};
 ghost use Rattle.lane_machine.specs.Lanes.{IsFront, progress_in};
 
 use crate::current::Current;
@@ -61,7 +63,8 @@ impl Lanes {
     /// number of lanes ("The whole effect" of docs/MACHINE.md).
     pub fn finish(&mut self, cells: &mut Spad, memory: &mut MainMem) -> u64
         requires some { 0 < length self.old.jobs }
-        requires inside { All (LiesIn (store_of cells.old memory.old)) self.old.jobs }
+        requires inside { All (λ job.
+            HasFootprint (store_size (store_of cells.old memory.old)) (Vector job.work)) self.old.jobs }
         ensures count { IfSome (slice_get self.old.jobs 0) (λ job.
             result ≡ beats_left (lane_course self.old.lanes) job) }
         ensures store { IfSome (slice_get self.old.jobs 0) (λ job.
@@ -108,7 +111,6 @@ impl Unit for Lanes {
     type Work = VecWork;
 
     ghost use Rattle.std.specs.Prelude.{ℕ, ◌<◌, ◌≤◌};
-    ghost use Rattle.venice_isa.specs.declared.issue.Issue.TheVariants.{Vector};
     ghost use Rattle.venice_isa.specs.Footprint.{Reads, Writes};
     ghost use Rattle.venice_isa.specs.Whole.{HasCounts};
     ghost use Rattle.venice_isa.specs.Beat.{Progress as LaneProgress};

@@ -1,5 +1,5 @@
 //! Where the numbers of A and of B come from.
-ghost use Rattle.std.specs.Prelude.{◌≡◌, ◌+◌, ◌*◌, ◌/◌, ◌<◌, ◌≤◌, ◌^◌, ℕ, length, take};
+ghost use Rattle.std.specs.Prelude.{◌≡◌, ◌+◌, ◌*◌, ◌/◌, ◌<◌, ◌≤◌, ◌^◌, ℕ, IsTrue, length, take};
 ghost use Rattle.ven_base.specs.Elem.{size_of, IsElement};
 ghost use Rattle.spad_store.specs.Cells.{bytes_from};
 ghost use Rattle.spad_store.specs.Packed.{has_bit};
@@ -21,20 +21,42 @@ pub(crate) enum Operand {
 }
 
 impl Operand {
-    ghost use Rattle.lane_machine.specs.Operand.{EndsBelow, CanGoOn, CanTurn, number_in, flag_in, a_group_on, at_next_row};
+    ghost use Rattle.lane_machine.specs.Operand.{end_in, CanGoOn, CanTurn, number_in, flag_in, a_group_on, at_next_row};
+
+    /// Loads the bytes of the next `count` elements, where they are asked for.
+    #[inline(always)]
+    pub(crate) fn load_if(
+        &self,
+        is_asked: bool,
+        cells: &Spad,
+        elem: Elem,
+        count: u32,
+        bytes: &mut Bytes,
+    )
+        requires few { count * size_of elem ≤ 16 }
+        requires in_type { IsElement elem (number_in elem self.now cells.now 0) }
+        requires inside { end_in elem self.now count ≤ length cells.now }
+        requires small { length cells.now < 2 ^ 32 }
+        ensures { IsTrue is_asked → HasNumbers elem count (number_in elem self.now cells.now) bytes.new }
+    {
+        if is_asked {
+            self.load(cells, elem, count, bytes);
+        }
+    }
 
     /// Loads the bytes of the next `count` elements.
+    #[inline(always)]
     pub(crate) fn load(&self, cells: &Spad, elem: Elem, count: u32, bytes: &mut Bytes)
         requires few { count * size_of elem ≤ 16 }
         requires in_type { IsElement elem (number_in elem self.now cells.now 0) }
-        requires inside { EndsBelow elem self.now count (length cells.now) }
+        requires inside { end_in elem self.now count ≤ length cells.now }
         requires small { length cells.now < 2 ^ 32 }
         ensures { HasNumbers elem count (number_in elem self.now cells.now) bytes.new }
     {
         match self {
             Operand::Number(n) => repeat(elem, *n, bytes),
             Operand::Elements(walk) => {
-                load_bytes(cells, walk.next as u32, count * elem.size(), bytes);
+                load_bytes(cells, walk.next_place as u32, count * elem.size(), bytes);
             }
         }
     }
@@ -43,13 +65,13 @@ impl Operand {
     /// bytes. A number has no flag that is set.
     pub(crate) fn flags(&self, cells: &Spad, elem: Elem, count: u32) -> u64
         requires few { count * size_of elem ≤ 16 }
-        requires inside { EndsBelow elem self.now count (length cells.now) }
+        requires inside { end_in elem self.now count ≤ length cells.now }
         requires small { length cells.now < 2 ^ 32 }
         ensures { (k : ℕ) → k < count → has_bit result (k * size_of elem) ≡ flag_in elem self.now cells.now k }
     {
         match self {
             Operand::Number(_) => 0,
-            Operand::Elements(walk) => cells.get_flags(walk.next as u32, count * elem.size()),
+            Operand::Elements(walk) => cells.get_flags(walk.next_place as u32, count * elem.size()),
         }
     }
 
@@ -74,8 +96,8 @@ impl Operand {
     }
 }
 
-/// Loads the bytes of so many cells.
-#[inline]
+/// Loads the bytes of so many cells. A whole group is copied by a move of its size.
+#[inline(always)]
 pub(crate) fn load_bytes(cells: &Spad, place: u32, count: u32, bytes: &mut Bytes)
     requires few { count ≤ 16 }
     requires inside { place + count ≤ length cells.now }
@@ -84,12 +106,17 @@ pub(crate) fn load_bytes(cells: &Spad, place: u32, count: u32, bytes: &mut Bytes
 {
     if count as usize == MOST_BYTES {
         cells.get_bytes(place, bytes);
+    } else if count == 4 {
+        cells.get_bytes(place, &mut bytes[..4]);
+    } else if count == 8 {
+        cells.get_bytes(place, &mut bytes[..8]);
     } else {
         cells.get_bytes(place, &mut bytes[..count as usize]);
     }
 }
 
 /// Puts one number into all elements of a group.
+#[inline(never)]
 fn repeat(elem: Elem, n: i64, bytes: &mut Bytes)
     ensures { HasSpelled elem (16 / size_of elem) (λ _. n) bytes.new }
 {

@@ -1,9 +1,10 @@
 //! Instructions run on a small scratchpad: A stands at cell 0, B at 16 and the destination at 32.
 ghost use Rattle.std.specs.Prelude.{◌≡◌, ◌↔◌, ◌+◌, ◌<◌, ◌≤◌, [], ◌∷◌, ◌++◌, IsTrue, IfOk, IsErr, OnOk, All, length, slice_get};
-ghost use Rattle.ven_base.specs.Store.{store_of, store_size, IsInRange};
+ghost use Rattle.ven_base.specs.Store.{cells_alone, store_of, store_size, IsInRange};
 ghost use Rattle.ven_base.specs.Job.{new_job, works_of};
 ghost use Rattle.venice_isa.specs.Whole.{HasCounts};
-ghost use Rattle.lane_machine.specs.Group.{IsInside};
+ghost use Rattle.venice_isa.specs.Footprint.{HasFootprint};
+ghost use Rattle.venice_isa.specs.declared.issue.Issue.TheVariants.{Vector};
 
 use crate::Lanes;
 use spad_store::{MainMem, Spad, Unit};
@@ -50,7 +51,7 @@ fn four(spad: &Spad, at: u32) -> Four
 
 /// Whether every cell that the instruction reads or writes lies below the end.
 fn lies_below(work: &VecWork, end: u32) -> bool
-    ensures { IsTrue result → IsInside work.now end }
+    ensures { IsTrue result → HasFootprint (cells_alone end) (Vector work.now) }
 {
     work.is_in_range(end)
 }
@@ -60,7 +61,7 @@ fn run(alloc: Global, lanes: u32, work: VecWork, cells: &mut Spad) -> Result<u64
     requires some_lanes { 0 < lanes }
     requires few_lanes { lanes ≤ 4 }
     requires counts { HasCounts work }
-    requires inside { IsInside work (length cells.old) }
+    requires inside { HasFootprint (cells_alone (length cells.old)) (Vector work) }
     ensures { length cells.new ≡ length cells.old }
 {
     let mut memory = MainMem::new(alloc, 0)?;
@@ -73,14 +74,16 @@ fn run(alloc: Global, lanes: u32, work: VecWork, cells: &mut Spad) -> Result<u64
 fn offer_to<U: Unit>(unit: &mut U, work: U::Work) -> Result<(), U::Work>
     requires { U.has_counts work }
     ensures full { IsErr result ↔ (length (U.jobs unit.old) ≡ U.places) }
-    ensures jobs { OnOk result (U.jobs unit.new ≡ U.jobs unit.old ++ new_job (U.course (U.setting unit.old)) work ∷ []) }
+    ensures jobs { OnOk result
+        (U.jobs unit.new ≡ U.jobs unit.old ++ new_job (U.course (U.setting unit.old)) work ∷ []) }
 {
     unit.offer(work)
 }
 
 /// Beats any unit until its queue is empty, a thousand times at the most, and counts the beats.
 fn count_beats<U: Unit>(unit: &mut U, cells: &mut Spad, memory: &mut MainMem) -> u32
-    requires inside { All (λ job. IsInRange (U.reads job.work) (U.writes job.work) (store_size (store_of cells.old memory.old))) (U.jobs unit.old) }
+    requires inside { All (λ job. IsInRange (U.reads job.work) (U.writes job.work)
+        (store_size (store_of cells.old memory.old))) (U.jobs unit.old) }
 {
     for turn in 0..1000 {
         if unit.unfinished() == 0 {
@@ -96,7 +99,7 @@ fn beats_of(alloc: Global, lanes: u32, work: VecWork, cells: &mut Spad) -> Resul
     requires some_lanes { 0 < lanes }
     requires few_lanes { lanes ≤ 4 }
     requires counts { HasCounts work }
-    requires inside { IsInside work (length cells.old) }
+    requires inside { HasFootprint (cells_alone (length cells.old)) (Vector work) }
 {
     let mut memory = MainMem::new(alloc, 0)?;
     let mut unit = Lanes::new(alloc, lanes)?;

@@ -1,18 +1,21 @@
-use Rattle.std.proofs.Common.{◌∙◌, ◌*◌, ◌/◌, ◌^◌, ap}
-use Rattle.std.specs.Prelude.{bit_and, ◌==◌}
-use Rattle.std.proofs.lemmas.Nat.Bits.{shr_and_one}
+use Rattle.std.proofs.Common.{◌≡◌, ◌*◌, ◌^◌, ◌%◌, ap, refl, inl, inr}
+use Rattle.std.specs.Prelude.{bit_and, bit_or}
 use Rattle.ven_base.specs.Elem.{size_of}
-use Rattle.spad_store.specs.Packed.{has_bit}
-use Rattle.lane_machine.proofs.Flagged.{no_flags}
+use Rattle.lane_machine.proofs.Spread.{whole_ones, whole_twos, whole_fours}
 use Rattle.lane_machine.proofs.flags.whole_elements.Goals as goal
 
-pub loop-k-init : goal.loop-k-init
-loop-k-init c = no_flags c.args.elem (λ k. has_bit c.args.first (k * size_of c.args.elem))
+pub returns-in-U8 : goal.returns-in-U8
+returns-in-U8 c =
+    let one : size_of c.args.elem ≡ 1 = elim c.in-U8.is [ inl is ↦ ap size_of is | inr is ↦ ap size_of is ] in
+    whole_ones c.args.elem c.args.first one
 
-pub loop-k-preserved : goal.loop-k-preserved
-unfolding has_bit
-loop-k-preserved c =
-    let first = c.args.first in
-    let k = c.loop-k.k in
-    c.with_element-bits.ensures (λ k. has_bit first (k * size_of c.args.elem)) c.loop-k.invariant
-    (ap (λ size. bit_and (first / 2 ^ (k * size)) 1 == 1) c.size-size.ensures ∙ ap (λ n. n == 1) (shr_and_one first (k * size_of c.args.elem)))
+pub returns-in-U16 : goal.returns-in-U16
+returns-in-U16 c =
+    let two : size_of c.args.elem ≡ 2 = elim c.in-U16.is [ inl is ↦ ap size_of is | inr is ↦ ap size_of is ] in
+    whole_twos c.args.elem c.args.first two
+
+pub returns-in-U32 : goal.returns-in-U32
+returns-in-U32 c =
+    let four : size_of c.args.elem ≡ 4 = elim c.in-U32.is [ inl is ↦ ap size_of is | inr is ↦ ap size_of is ] in
+    let bits = bit_and c.args.first 4369 in
+    whole_fours c.args.elem c.args.first (bit_or bits (bits * 2 ^ 1 % 2 ^ 64)) four refl

@@ -10,28 +10,28 @@ use Rattle.lane_machine.proofs.group.beat.Goals as goal
 pub work_out-requires-clause-few : goal.work_out-requires-clause-few
 work_out-requires-clause-few c =
     let kind = c.args.work.now.kind in
-    few_in_group c.args.current.now.group c.args.count (wider kind.elem kind.from) (omega arith) c.requires.at.placed.few
+    few_in_group c.args.current.now.group_items c.args.count (wider kind.elem kind.from) (omega arith) c.requires.at.placed.few
 
 pub sum_of-requires : goal.sum_of-requires
 sum_of-requires c =
     let kind = c.args.work.now.kind in
-    (few_bytes kind.elem kind.from c.args.count (few_in_group c.args.current.now.group c.args.count (wider kind.elem kind.from) (omega arith) c.requires.at.placed.few)).0
+    (few_bytes kind.elem kind.from c.args.count (few_in_group c.args.current.now.group_items c.args.count (wider kind.elem kind.from) (omega arith) c.requires.at.placed.few)).0
 
 pub move_flagged-requires-clause-few : goal.move_flagged-requires-clause-few
 move_flagged-requires-clause-few c =
     let kind = c.args.work.now.kind in
-    few_in_group c.args.current.now.group c.args.count (wider kind.elem kind.from) (omega arith) c.requires.at.placed.few
+    few_in_group c.args.current.now.group_items c.args.count (wider kind.elem kind.from) (omega arith) c.requires.at.placed.few
 
 pub put_all-requires-clause-few : goal.put_all-requires-clause-few
 put_all-requires-clause-few c =
     let kind = c.args.work.now.kind in
-    few_in_group c.args.current.now.group c.args.count (wider kind.elem kind.from) (omega arith) c.requires.at.placed.few
+    few_in_group c.args.current.now.group_items c.args.count (wider kind.elem kind.from) (omega arith) c.requires.at.placed.few
 
 pub returns-then-work-current-clause-cells : goal.returns-then-work-current-clause-cells
 returns-then-work-current-clause-cells c = λ lanes on.
     let work = c.args.work.now in
     let current = c.args.current.now in
-    let exact = exact_sum current.sum c.sum_of.result c.from.result current.first c.args.count c.requires.at.bounded c.sum_of.ensures.bounded (search rules) (omega (arith, few_of_group work.kind.elem work.kind.from current.group c.requires.at.placed.few)) c.from.ensures in
+    let exact = exact_sum current.sum c.sum_of.result c.from.result current.first c.args.count c.requires.at.bounded c.sum_of.ensures.bounded (search rules) (omega (arith, few_of_group work.kind.elem work.kind.from current.group_items c.requires.at.placed.few)) c.from.ensures in
     c.put_sum.ensures
     ∙ sum_beat_ends lanes work current c.requires.at on c.args.cells.now _ c.if-work.true (c.if-work-current.true ∙ c.requires.count)
     (exact ∙ sum_same lanes work current c.requires.at on c.args.cells.now c.sum_of.result (rw (← c.requires.count) (c.sum_of.ensures.value ∙ sum_is work c.args.cells.now current.row current.first c.args.count c.work_out.new.results c.work_out.ensures)))
@@ -40,7 +40,7 @@ pub returns-then-work-current-clause-sum : goal.returns-then-work-current-clause
 returns-then-work-current-clause-sum c = λ lanes on.
     let work = c.args.work.now in
     let current = c.args.current.now in
-    let exact = exact_sum current.sum c.sum_of.result c.from.result current.first c.args.count c.requires.at.bounded c.sum_of.ensures.bounded (search rules) (omega (arith, few_of_group work.kind.elem work.kind.from current.group c.requires.at.placed.few)) c.from.ensures in
+    let exact = exact_sum current.sum c.sum_of.result c.from.result current.first c.args.count c.requires.at.bounded c.sum_of.ensures.bounded (search rules) (omega (arith, few_of_group work.kind.elem work.kind.from current.group_items c.requires.at.placed.few)) c.from.ensures in
     exact
     ∙ sum_same lanes work current c.requires.at on c.args.cells.now c.sum_of.result (rw (← c.requires.count) (c.sum_of.ensures.value ∙ sum_is work c.args.cells.now current.row current.first c.args.count c.work_out.new.results c.work_out.ensures))
     ∙ sym (cond-true work.kind.acc _ _ c.if-work.true)
@@ -49,7 +49,7 @@ pub returns-then-work-current-clause-bounded : goal.returns-then-work-current-cl
 returns-then-work-current-clause-bounded c =
     let work = c.args.work.now in
     let current = c.args.current.now in
-    let exact = exact_sum current.sum c.sum_of.result c.from.result current.first c.args.count c.requires.at.bounded c.sum_of.ensures.bounded (search rules) (omega (arith, few_of_group work.kind.elem work.kind.from current.group c.requires.at.placed.few)) c.from.ensures in
+    let exact = exact_sum current.sum c.sum_of.result c.from.result current.first c.args.count c.requires.at.bounded c.sum_of.ensures.bounded (search rules) (omega (arith, few_of_group work.kind.elem work.kind.from current.group_items c.requires.at.placed.few)) c.from.ensures in
     subst (IsBounded (current.first + c.args.count)) (sym exact) (bounded_sum current.first c.args.count current.sum c.sum_of.result c.requires.at.bounded c.sum_of.ensures.bounded)
 
 pub returns-else-work-current-clause-cells : goal.returns-else-work-current-clause-cells
@@ -60,7 +60,7 @@ pub returns-else-work-current-clause-sum : goal.returns-else-work-current-clause
 returns-else-work-current-clause-sum c = λ lanes on.
     let work = c.args.work.now in
     let current = c.args.current.now in
-    let exact = exact_sum current.sum c.sum_of.result c.from.result current.first c.args.count c.requires.at.bounded c.sum_of.ensures.bounded (search rules) (omega (arith, few_of_group work.kind.elem work.kind.from current.group c.requires.at.placed.few)) c.from.ensures in
+    let exact = exact_sum current.sum c.sum_of.result c.from.result current.first c.args.count c.requires.at.bounded c.sum_of.ensures.bounded (search rules) (omega (arith, few_of_group work.kind.elem work.kind.from current.group_items c.requires.at.placed.few)) c.from.ensures in
     exact
     ∙ sum_same lanes work current c.requires.at on c.args.cells.now c.sum_of.result (rw (← c.requires.count) (c.sum_of.ensures.value ∙ sum_is work c.args.cells.now current.row current.first c.args.count c.work_out.new.results c.work_out.ensures))
     ∙ sym (cond-true work.kind.acc _ _ c.if-work.true)
@@ -69,7 +69,7 @@ pub returns-else-work-current-clause-bounded : goal.returns-else-work-current-cl
 returns-else-work-current-clause-bounded c =
     let work = c.args.work.now in
     let current = c.args.current.now in
-    let exact = exact_sum current.sum c.sum_of.result c.from.result current.first c.args.count c.requires.at.bounded c.sum_of.ensures.bounded (search rules) (omega (arith, few_of_group work.kind.elem work.kind.from current.group c.requires.at.placed.few)) c.from.ensures in
+    let exact = exact_sum current.sum c.sum_of.result c.from.result current.first c.args.count c.requires.at.bounded c.sum_of.ensures.bounded (search rules) (omega (arith, few_of_group work.kind.elem work.kind.from current.group_items c.requires.at.placed.few)) c.from.ensures in
     subst (IsBounded (current.first + c.args.count)) (sym exact) (bounded_sum current.first c.args.count current.sum c.sum_of.result c.requires.at.bounded c.sum_of.ensures.bounded)
 
 pub returns-then-is_conditional-clause-cells : goal.returns-then-is_conditional-clause-cells

@@ -45,7 +45,7 @@ returns c =
     let cells = c.args.cells.now in
     let elem = work.kind.elem in
     let count = c.args.count in
-    let place = current.dst.next in
+    let place = current.dst.next_place in
     let n = count * c.size.result in
     let n_is : n ≡ count * size_of elem = ap (λ size. count * size) c.size.ensures in
     let all = dst_ends work current c.requires.placed (length cells) c.requires.inside count c.requires.some c.requires.in_row c.requires.no_sum in
@@ -54,7 +54,7 @@ returns c =
     let left = bit_and c.get_flags-flags.result (bit_not w64 moved) in
     c.put_flags.ensures.cells
     ∙ ap (λ cells. with_flags cells place (flags_of n left)) c.put_first.ensures.cells
-    ∙ moved_put work cells current.row current.first count place n c.requires.placed.dst_is.next_is n_is few.0 (omega (arith, all, n_is)) c.args.results.now c.requires.results c.requires.conditional
+    ∙ moved_put work cells current.row current.first count place n c.requires.placed.dst_is.next_place_is n_is few.0 (omega (arith, all, n_is)) c.args.results.now c.requires.results c.requires.conditional
     c.load_bytes.new.bytes c.merge.new.bytes c.flags.result moved c.get_flags-flags.result c.load_bytes.ensures.long c.load_bytes.ensures.bytes c.get_flags-flags.ensures.flags c.whole_elements-moved.type_inv c.whole_elements-moved.ensures
     (λ k below. c.flags.ensures k below ∙ b_flag work current c.requires.placed c.requires.conditional cells k)
     c.merge.ensures.long c.merge.ensures.each

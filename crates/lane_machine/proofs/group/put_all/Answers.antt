@@ -27,7 +27,7 @@ returns-then-is_comparison c =
     let current = c.args.current.now in
     let cells = c.args.cells.now in
     let count = c.args.count in
-    let place = current.dst.next in
+    let place = current.dst.next_place in
     let n = count * c.size.result in
     let bits = c.flags_for.result in
     let n_is : n ≡ count * size_of work.kind.elem = ap (λ size. count * size) c.size.ensures in
@@ -35,7 +35,7 @@ returns-then-is_comparison c =
     let few = few_bytes work.kind.elem work.kind.from count c.requires.few in
     c.put_flags.ensures.cells
     ∙ ap (λ cells. with_flags cells place (flags_of n bits)) c.put_first.ensures.cells
-    ∙ flagged_put work cells current.row current.first count place n c.requires.placed.dst_is.next_is n_is few.0 (omega (arith, all, n_is)) c.args.results.now c.requires.results c.requires.plain bits c.flags_for.ensures
+    ∙ flagged_put work cells current.row current.first count place n c.requires.placed.dst_is.next_place_is n_is few.0 (omega (arith, all, n_is)) c.args.results.now c.requires.results c.requires.plain bits c.flags_for.ensures
 
 pub returns-else-is_comparison : goal.returns-else-is_comparison
 returns-else-is_comparison c =
@@ -48,4 +48,4 @@ returns-else-is_comparison c =
     let all = dst_ends work current c.requires.placed (length cells) c.requires.inside count c.requires.some c.requires.in_row c.requires.no_sum in
     let few = few_bytes work.kind.elem work.kind.from count c.requires.few in
     c.put_first.ensures.cells
-    ∙ plain_put work cells current.row current.first count current.dst.next n c.requires.placed.dst_is.next_is n_is few.0 (omega (arith, all, n_is)) c.args.results.now c.requires.results c.requires.plain (sym c.is_comparison.ensures ∙ c.if-is_comparison.false)
+    ∙ plain_put work cells current.row current.first count current.dst.next_place n c.requires.placed.dst_is.next_place_is n_is few.0 (omega (arith, all, n_is)) c.args.results.now c.requires.results c.requires.plain (sym c.is_comparison.ensures ∙ c.if-is_comparison.false)

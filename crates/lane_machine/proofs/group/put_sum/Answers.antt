@@ -10,7 +10,7 @@ overflow_cast-current c =
     let current = c.args.current.now in
     let placed = c.requires.placed in
     let end = sum_end work (length c.args.cells.now) c.requires.inside current.row current.first placed.in_rows placed.in_row c.requires.with_sum in
-    omega (arith, end, walk_row (destination work) current.group current.row current.first current.dst placed.dst_is, c.requires.small)
+    omega (arith, end, walk_row (destination work) current.group_items current.row current.first current.dst placed.dst_is, c.requires.small)
 
 pub put_number-requires : goal.put_number-requires
 put_number-requires c =
@@ -18,4 +18,4 @@ put_number-requires c =
     let current = c.args.current.now in
     let placed = c.requires.placed in
     let end = sum_end work (length c.args.cells.now) c.requires.inside current.row current.first placed.in_rows placed.in_row c.requires.with_sum in
-    omega (arith, end, walk_row (destination work) current.group current.row current.first current.dst placed.dst_is)
+    omega (arith, end, walk_row (destination work) current.group_items current.row current.first current.dst placed.dst_is)

@@ -17,7 +17,7 @@ loop-k-preserved g c =
     let a = c.args.a.now in
     let b = c.args.b.now in
     let k = c.loop-k.k in
-    let results = c.loop-k.results in
+    let so_far = c.loop-k.answers in
     let as_elem = c.ELEM-elem.result in
     let same_elem = c.ELEM-elem.ensures in
     let same_from = c.ELEM-from.ensures in
@@ -31,11 +31,11 @@ loop-k-preserved g c =
     ∙ ap (λ x. answer_of op as_elem x (to_z w64 (of_z w64 number_b))) (read_a ∙ c.number.ensures.value ∙ ap (λ from. element_in from a k) same_from)
     ∙ ap (λ y. answer_of op as_elem (element_in from a k) y) (read_b ∙ c.number-in-loop-k.ensures.value ∙ ap (λ elem. element_in elem b k) same_elem)
     ∙ ap (λ elem'. answer_of op elem' (element_in from a k) (element_in elem b k)) same_elem in
-    let is : c.put.new.bytes ≡ overwritten results (k * size_of elem) (bytes_of elem n) = c.put.ensures
-    ∙ ap (λ bits. overwritten results (k * size_of as_elem) (low_bytes (size_of as_elem) bits)) (c.bits_of.ensures.value ∙ ap (bits_of as_elem) read_n)
-    ∙ ap (λ elem. overwritten results (k * size_of elem) (low_bytes (size_of elem) (bits_of elem n))) same_elem in
+    let is : c.put.new.bytes ≡ overwritten so_far (k * size_of elem) (bytes_of elem n) = c.put.ensures
+    ∙ ap (λ bits. overwritten so_far (k * size_of as_elem) (low_bytes (size_of as_elem) bits)) (c.bits_of.ensures.value ∙ ap (bits_of as_elem) read_n)
+    ∙ ap (λ elem. overwritten so_far (k * size_of elem) (low_bytes (size_of elem) (bits_of elem n))) same_elem in
     let most : c.max-k-end.result ≡ wider elem from = omega (arith, c.max-k-end.ensures, c.size.ensures, c.size-2.ensures, ap size_of same_elem, ap size_of same_from) in
     let counted : 16 / c.max-k-end.result ≡ 16 / wider elem from = ap (λ n. 16 / n) most in
     let fits = wider_fits elem from k (omega (arith, counted)) in
     let answers : ℕ → ℤ = λ k. answer_of op elem (element_in from a k) (element_in elem b k) in
-    subst (HasSpelled elem (k + 1) answers) (sym is) (spelled_more elem answers k results n c.loop-k.invariant fits.0 number)
+    subst (HasSpelled elem (k + 1) answers) (sym is) (spelled_more elem answers k so_far n c.loop-k.invariant fits.0 number)

@@ -62,7 +62,7 @@ invariant_of-self-then-not-advance c =
     let first : slice_get queue.items 0 ≡ Some c.in-Some.work.now = sym c.in-Some.ensures in
     let store = store_of c.args.cells.now c.args._memory.now in
     let under_way = first_under_way lanes queue c.self.inside.current current c.in-Some.work.now c.self.invariant c.in-Some-current.is first in
-    let last = rw under_way.group_is at c.advance.ensures.ends c.if-not-advance.true in
+    let last = rw under_way.group_items_is at c.advance.ensures.ends c.if-not-advance.true in
     lanes_beaten lanes queue c.pop_front.new.self c.self.inside.current next store c.self.invariant (ap (λ (q : Buffer VecWork). q.capacity) c.pop_front.ensures.items)
     (ap (λ (q : Buffer VecWork). jobs_of lanes q.items next) c.pop_front.ensures.items
     ∙ jobs_left lanes queue.items c.in-Some.work.now current first store next last c.begin_first-self-inside.ensures.begins
@@ -78,7 +78,7 @@ returns-then-not-advance-clause-jobs c =
     let first : slice_get queue.items 0 ≡ Some c.in-Some.work.now = sym c.in-Some.ensures in
     let store = store_of c.args.cells.now c.args._memory.now in
     let under_way = first_under_way lanes queue c.self.inside.current current c.in-Some.work.now c.self.invariant c.in-Some-current.is first in
-    let last = rw under_way.group_is at c.advance.ensures.ends c.if-not-advance.true in
+    let last = rw under_way.group_items_is at c.advance.ensures.ends c.if-not-advance.true in
     ap (λ (q : Buffer VecWork). jobs_of lanes q.items next) c.pop_front.ensures.items
     ∙ jobs_left lanes queue.items c.in-Some.work.now current first store next last c.begin_first-self-inside.ensures.begins
     ∙ ap (λ kept. jobs_beaten (lane_course lanes) 0 (jobs_of lanes queue.items kept) store) (sym c.in-Some-current.is)
@@ -95,13 +95,13 @@ invariant_of-self-else-not-advance c =
     let store = store_of c.args.cells.now c.args._memory.now in
     let under_way = first_under_way lanes queue c.self.inside.current current work c.self.invariant c.in-Some-current.is first in
     let is_next = c.advance.ensures.goes_on c.if-not-advance.false in
-    let sum = to_z-of_z w128 c.beat-sum.result (record { sfits = c.beat-sum.type_inv }) ∙ c.beat-sum.ensures.sum lanes under_way.group_is in
-    let on = progress_on lanes work current next c.args.cells.now _ under_way.at under_way.group_is sum is_next in
-    let more = rw (is_next.group_is ∙ under_way.group_is, is_next.done_is) at is_next.at.come.more in
+    let sum = to_z-of_z w128 c.beat-sum.result (record { sfits = c.beat-sum.type_inv }) ∙ c.beat-sum.ensures.sum lanes under_way.group_items_is in
+    let on = progress_on lanes work current next c.args.cells.now _ under_way.at under_way.group_items_is sum is_next in
+    let more = rw (is_next.group_items_is ∙ under_way.group_items_is, is_next.done_is) at is_next.at.come.more in
     lanes_beaten lanes queue queue c.self.inside.current (Some next) store c.self.invariant refl
     (jobs_on lanes queue.items work current first store next more on
     ∙ ap (λ kept. jobs_beaten (lane_course lanes) 0 (jobs_of lanes queue.items kept) store) (sym c.in-Some-current.is))
-    (at_front lanes queue.items work next first (record { at = is_next.at; group_is = is_next.group_is ∙ under_way.group_is }))
+    (at_front lanes queue.items work next first (record { at = is_next.at; group_items_is = is_next.group_items_is ∙ under_way.group_items_is }))
 
 pub returns-then-not-advance-clause-store : goal.returns-then-not-advance-clause-store
 returns-then-not-advance-clause-store c =
@@ -112,7 +112,7 @@ returns-then-not-advance-clause-store c =
     let first : slice_get queue.items 0 ≡ Some work = sym c.in-Some.ensures in
     let under_way = first_under_way lanes queue c.self.inside.current current work c.self.invariant c.in-Some-current.is first in
     let store = store_of c.args.cells.now c.args._memory.now in
-    ap (λ cells. store_of cells c.args._memory.now) (c.beat-sum.ensures.cells lanes under_way.group_is)
+    ap (λ cells. store_of cells c.args._memory.now) (c.beat-sum.ensures.cells lanes under_way.group_items_is)
     ∙ ap (λ jobs. store_beaten (lane_course lanes) 0 jobs store) (sym (jobs_first lanes queue.items work (Some current) first))
     ∙ ap (λ kept. store_beaten (lane_course lanes) 0 (jobs_of lanes queue.items kept) store) (sym c.in-Some-current.is)
     ∙ ap (λ s. store_beaten (lane_course s.lanes) 0 s.jobs store) c.self.view_is
@@ -128,9 +128,9 @@ returns-else-not-advance-clause-jobs c =
     let store = store_of c.args.cells.now c.args._memory.now in
     let under_way = first_under_way lanes queue c.self.inside.current current work c.self.invariant c.in-Some-current.is first in
     let is_next = c.advance.ensures.goes_on c.if-not-advance.false in
-    let sum = to_z-of_z w128 c.beat-sum.result (record { sfits = c.beat-sum.type_inv }) ∙ c.beat-sum.ensures.sum lanes under_way.group_is in
-    let on = progress_on lanes work current next c.args.cells.now _ under_way.at under_way.group_is sum is_next in
-    let more = rw (is_next.group_is ∙ under_way.group_is, is_next.done_is) at is_next.at.come.more in
+    let sum = to_z-of_z w128 c.beat-sum.result (record { sfits = c.beat-sum.type_inv }) ∙ c.beat-sum.ensures.sum lanes under_way.group_items_is in
+    let on = progress_on lanes work current next c.args.cells.now _ under_way.at under_way.group_items_is sum is_next in
+    let more = rw (is_next.group_items_is ∙ under_way.group_items_is, is_next.done_is) at is_next.at.come.more in
     jobs_on lanes queue.items work current first store next more on
     ∙ ap (λ kept. jobs_beaten (lane_course lanes) 0 (jobs_of lanes queue.items kept) store) (sym c.in-Some-current.is)
     ∙ ap (λ s. jobs_beaten (lane_course s.lanes) 0 s.jobs store) c.self.view_is

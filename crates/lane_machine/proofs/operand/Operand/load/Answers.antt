@@ -24,7 +24,7 @@ returns-in-Elements c =
     let elem = c.args.elem in
     let cells = c.args.cells.now in
     let count = c.args.count in
-    let next = c.in-Elements.walk.next in
+    let next = c.in-Elements.walk.next_place in
     let bytes = c.load_bytes.new.bytes in
     let read = subst (λ size. take (count * size) bytes ≡ bytes_from cells next (count * size)) c.size.ensures c.load_bytes.ensures.bytes in
     subst (λ operand. HasNumbers elem count (number_in elem operand cells) bytes) (sym c.in-Elements.is)
