@@ -1,5 +1,5 @@
 -- An order has one step for each inner node: each step adds one to the inner nodes of all trees that the slots hold.
-use Rattle.std.proofs.Common.{◌≡◌, ◌≢◌, ℕ, zero, suc, ◌+◌, ◌<◌, ◌≤◌, List, [], ◌∷◌, length, refl, sym, ap, ◌∙◌, subst, arith, Bool, true, false}
+use Rattle.std.proofs.Common.{◌≡◌, ℕ, zero, suc, ◌+◌, ◌<◌, ◌≤◌, List, [], ◌∷◌, length, refl, sym, ap, ◌∙◌, subst, arith, true}
 use Rattle.std.specs.Prelude.{Option, Some, None}
 use Rattle.std.proofs.lemmas.Bool.{cases_eq, false≢true}
 use mathlib.Core.Logic.{⊎_elim}
@@ -8,9 +8,9 @@ use Rattle.pass_plan.specs.Numbers.{inner_of}
 use Rattle.buffer_lifetimes.specs.declared.step.Operand.{Operand}
 use Rattle.buffer_lifetimes.specs.declared.step.Operand.TheVariants as operand
 use Rattle.buffer_lifetimes.specs.Step.{Tree, Step}
-use Rattle.buffer_lifetimes.specs.Order.{State, no_slots, put, IsArg, without, without_all, AreArgs, CanStep, after_step, Leads, IsOrder}
+use Rattle.buffer_lifetimes.specs.Order.{State, no_slots, put, IsArg, without, without_all, AreArgs, CanStep, after_step, Leads}
 use Rattle.buffer_lifetimes.specs.Laws.{CountsSteps}
-use Rattle.buffer_lifetimes.proofs.Slots.{put_same, put_other, none_some, some_same}
+use Rattle.buffer_lifetimes.proofs.Slots.{put_same, put_other, none_some}
 use Rattle.buffer_lifetimes.proofs.Trees.{stood, stood_all}
 
 abbrev inner_held : Option Tree → ℕ

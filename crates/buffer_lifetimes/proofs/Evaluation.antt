@@ -1,5 +1,5 @@
 -- One operand after another, as the code works them out.
-use Rattle.std.proofs.Common.{◌≡◌, ◌≢◌, ℕ, zero, suc, ◌+◌, ◌<◌, ◌≤◌, List, [], ◌∷◌, ◌++◌, length, get_or, take, drop, set, refl, sym, ap, ◌∙◌, subst, arith, append_assoc, append-nil, true}
+use Rattle.std.proofs.Common.{◌≡◌, ℕ, zero, suc, ◌+◌, ◌<◌, ◌≤◌, List, [], ◌∷◌, ◌++◌, length, get_or, take, drop, set, refl, sym, ap, ◌∙◌, arith, append_assoc, append-nil, true}
 use Rattle.std.specs.Prelude.{map}
 use Rattle.std.specs.List.{range_with_len}
 use Rattle.std.proofs.lemmas.Bool.{cases_eq, false≢true}
@@ -11,10 +11,10 @@ use Rattle.pass_plan.specs.Tree.{AtLeaf, Literal, One, Two, Cast, Move, Select, 
 use Rattle.pass_plan.specs.declared.turn.Turn.{Turn}
 use Rattle.pass_plan.specs.Numbers.{places_of}
 use Rattle.pass_plan.specs.NumberShown.{no_tree}
-use Rattle.pass_plan.proofs.Each.{Each, EachPlace, EachPlace-map, places_each}
+use Rattle.pass_plan.proofs.Each.{Each, EachPlace, places_each}
 use Rattle.buffer_lifetimes.specs.declared.step.Operand.{Operand}
 use Rattle.buffer_lifetimes.specs.Step.{Tree, Step}
-use Rattle.buffer_lifetimes.specs.OrderOf.{Code, no_code, remove_slot, put_slot, Placed, placed, arg_for, args_for, step_for, node_code, code_of}
+use Rattle.buffer_lifetimes.specs.OrderOf.{Code, remove_slot, put_slot, OperandsCode, operands_code, arg_for, args_for, step_for, node_code, code_of}
 use Rattle.buffer_lifetimes.proofs.Slots.{if_same, if_other}
 
 abbrev pub codes_of : Tree → List (List ℕ → Code)
@@ -43,18 +43,18 @@ slot-set slots place to h = λ i k. at k i
         (cases_eq k place)
 
 -- the operands from one on: its steps, and then those of the later ones
-abbrev pub with_next : Tree → Code → List ℕ → (ℕ → ℕ) → List ℕ → Placed
+abbrev pub with_next : Tree → Code → List ℕ → (ℕ → ℕ) → List ℕ → OperandsCode
 with_next t code later slot left =
-    let rest = placed later (codes_of t) slot (remove_slot code.to left) in
+    let rest = operands_code later (codes_of t) slot (remove_slot code.to left) in
     record { steps = code.steps ++ rest.steps; slot = rest.slot; left = rest.left }
 
 pub one_turn : (t : Tree) (i place : ℕ) (slots left : List ℕ) → i < length (places_of t) → get_or (places_of t) i 0 ≡ place → place < length slots
     → let code = code_of (get_or (operands_of t) place no_tree) left in
-    placed (drop i (places_of t)) (codes_of t) (slot_in slots) left ≡ with_next t code (drop (i + 1) (places_of t)) (slot_in (set slots place code.to)) left
+    operands_code (drop i (places_of t)) (codes_of t) (slot_in slots) left ≡ with_next t code (drop (i + 1) (places_of t)) (slot_in (set slots place code.to)) left
 one_turn t i place slots left below is low =
     let next : suc i ≡ i + 1 = omega arith in
     let code = code_of (get_or (operands_of t) place no_tree) left in
-    ap (λ ks. placed ks (codes_of t) (slot_in slots) left) (drop-cons (places_of t) i 0 below ∙ ap (λ k. k ∷ drop (suc i) (places_of t)) is ∙ ap (λ j. place ∷ drop j (places_of t)) next)
+    ap (λ ks. operands_code ks (codes_of t) (slot_in slots) left) (drop-cons (places_of t) i 0 below ∙ ap (λ k. k ∷ drop (suc i) (places_of t)) is ∙ ap (λ j. place ∷ drop j (places_of t)) next)
     ∙ ap (λ (c : List ℕ → Code). with_next t (c left) (drop (i + 1) (places_of t)) (put_slot (slot_in slots) place (c left).to) left) (get_or-map code_of (operands_of t) place no_tree)
     ∙ ap (λ slot. with_next t code (drop (i + 1) (places_of t)) slot left) (slot-set slots place code.to low)
 
@@ -100,9 +100,9 @@ args-more (t ∷ ts) slot (suc j) k d h =
 
 -- the first i operands in turn are worked out: what was done and what is left to do are together all
 pub record Going (t : Tree) (old : List Step) (free : List ℕ) (i : ℕ) (slots left : List ℕ) (now : List Step) : Type 0 where
-  pub steps : now ++ (placed (drop i (places_of t)) (codes_of t) (slot_in slots) left).steps ≡ old ++ (placed (places_of t) (codes_of t) (λ k. 0) free).steps
-  pub slot : (placed (drop i (places_of t)) (codes_of t) (slot_in slots) left).slot ≡ (placed (places_of t) (codes_of t) (λ k. 0) free).slot
-  pub left_is : (placed (drop i (places_of t)) (codes_of t) (slot_in slots) left).left ≡ (placed (places_of t) (codes_of t) (λ k. 0) free).left
+  pub steps : now ++ (operands_code (drop i (places_of t)) (codes_of t) (slot_in slots) left).steps ≡ old ++ (operands_code (places_of t) (codes_of t) (λ k. 0) free).steps
+  pub slot : (operands_code (drop i (places_of t)) (codes_of t) (slot_in slots) left).slot ≡ (operands_code (places_of t) (codes_of t) (λ k. 0) free).slot
+  pub left_is : (operands_code (drop i (places_of t)) (codes_of t) (slot_in slots) left).left ≡ (operands_code (places_of t) (codes_of t) (λ k. 0) free).left
 
 slot_zero : slot_in (0 ∷ 0 ∷ 0 ∷ []) ≡ (λ k. 0)
 slot_zero = λ i k. at k i
@@ -115,7 +115,7 @@ slot_zero = λ i k. at k i
 
 pub going_first : (t : Tree) (old : List Step) (free slots left : List ℕ) → slots ≡ 0 ∷ 0 ∷ 0 ∷ [] → left ≡ free → Going t old free 0 slots left old
 going_first t old free slots left zeros is =
-    let whole : placed (places_of t) (codes_of t) (slot_in slots) left ≡ placed (places_of t) (codes_of t) (λ k. 0) free = λ j. placed (places_of t) (codes_of t) ((ap slot_in zeros ∙ slot_zero) j) (is j) in
+    let whole : operands_code (places_of t) (codes_of t) (slot_in slots) left ≡ operands_code (places_of t) (codes_of t) (λ k. 0) free = λ j. operands_code (places_of t) (codes_of t) ((ap slot_in zeros ∙ slot_zero) j) (is j) in
     record { steps = ap (λ p. old ++ p.steps) whole; slot = ap (λ p. p.slot) whole; left_is = ap (λ p. p.left) whole }
 
 pub going_next : (t : Tree) (old now next : List Step) (free : List ℕ) (i place to : ℕ) (slots left left' : List ℕ) → Going t old free i slots left now → i < length (places_of t) → get_or (places_of t) i 0 ≡ place → place < length slots
@@ -123,8 +123,8 @@ pub going_next : (t : Tree) (old now next : List Step) (free : List ℕ) (i plac
 going_next t old now next free i place to slots left left' going below is low code same steps to_is left_is =
     let real = code_of (get_or (operands_of t) place no_tree) left in
     let to_real : to ≡ real.to = to_is ∙ ap (λ c. c.to) same in
-    let rest : Placed = placed (drop (i + 1) (places_of t)) (codes_of t) (slot_in (set slots place real.to)) (remove_slot real.to left) in
-    let rest_is : placed (drop (i + 1) (places_of t)) (codes_of t) (slot_in (set slots place to)) left' ≡ rest = λ j. placed (drop (i + 1) (places_of t)) (codes_of t) (slot_in (set slots place (to_real j))) ((left_is ∙ ap (λ s. remove_slot s left) to_real) j) in
+    let rest : OperandsCode = operands_code (drop (i + 1) (places_of t)) (codes_of t) (slot_in (set slots place real.to)) (remove_slot real.to left) in
+    let rest_is : operands_code (drop (i + 1) (places_of t)) (codes_of t) (slot_in (set slots place to)) left' ≡ rest = λ j. operands_code (drop (i + 1) (places_of t)) (codes_of t) (slot_in (set slots place (to_real j))) ((left_is ∙ ap (λ s. remove_slot s left) to_real) j) in
     let one = one_turn t i place slots left below is low in
     record {
       steps = ap (λ p. next ++ p.steps) rest_is ∙ ap (λ s. s ++ rest.steps) (steps ∙ ap (λ c. now ++ c.steps) same) ∙ append_assoc now real.steps rest.steps ∙ ap (λ p. now ++ p.steps) (sym one) ∙ going.steps;
@@ -133,20 +133,20 @@ going_next t old now next free i place to slots left left' going below is low co
     }
 
 module _ (t : Tree) (old now : List Step) (free : List ℕ) (i : ℕ) (slots left : List ℕ) (going : Going t old free i slots left now) (end : length (places_of t) ≤ i) (inner : is_computed t ≡ true) where
-  abbrev all : Placed
-  all = placed (places_of t) (codes_of t) (λ k. 0) free
+  abbrev all : OperandsCode
+  all = operands_code (places_of t) (codes_of t) (λ k. 0) free
 
   none_left : drop i (places_of t) ≡ []
   none_left = drop_of_length-le (places_of t) end
 
   steps_are : now ≡ old ++ all.steps
-  steps_are = sym (append-nil now) ∙ ap (λ ks. now ++ (placed ks (codes_of t) (slot_in slots) left).steps) (sym none_left) ∙ going.steps
+  steps_are = sym (append-nil now) ∙ ap (λ ks. now ++ (operands_code ks (codes_of t) (slot_in slots) left).steps) (sym none_left) ∙ going.steps
 
   slots_are : slot_in slots ≡ all.slot
-  slots_are = ap (λ ks. (placed ks (codes_of t) (slot_in slots) left).slot) (sym none_left) ∙ going.slot
+  slots_are = ap (λ ks. (operands_code ks (codes_of t) (slot_in slots) left).slot) (sym none_left) ∙ going.slot
 
   left_are : left ≡ all.left
-  left_are = ap (λ ks. (placed ks (codes_of t) (slot_in slots) left).left) (sym none_left) ∙ going.left_is
+  left_are = ap (λ ks. (operands_code ks (codes_of t) (slot_in slots) left).left) (sym none_left) ∙ going.left_is
 
   step_is : (args : List Operand) → args ≡ args_for (operands_of t) (slot_in slots) 0 → step_for t args left ≡ step_for t (args_for (operands_of t) all.slot 0) all.left
   step_is args is = λ j. step_for t ((is ∙ ap (λ slot. args_for (operands_of t) slot 0) slots_are) j) (left_are j)

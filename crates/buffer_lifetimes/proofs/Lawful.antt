@@ -1,28 +1,27 @@
 -- The order of a normalised tree is one.
-use Rattle.std.proofs.Common.{◌≡◌, ◌≢◌, ℕ, zero, suc, ◌+◌, ◌<◌, ◌≤◌, List, [], ◌∷◌, ◌++◌, length, get_or, drop, refl, sym, ap, ◌∙◌, subst, arith, Bool, true, false}
+use Rattle.std.proofs.Common.{◌≡◌, ◌≢◌, ℕ, zero, suc, ◌+◌, ◌<◌, ◌≤◌, List, [], ◌∷◌, ◌++◌, length, get_or, refl, sym, ap, ◌∙◌, subst, arith, Bool, true, false}
 use Rattle.std.specs.Prelude.{Option, Some, None, ◌==◌, if◌then◌else◌, cond, map, max, not, ◌&&◌, ◌⊎◌}
 use Rattle.std.specs.Option.{option_map_or}
 use Rattle.std.specs.List.{range_with_len}
 use Rattle.std.proofs.lemmas.Bool.{cases_eq, cases_Bool, eq-eqb, ne_eqb, false≢true}
 use Rattle.std.proofs.Math.ListN.{get_or-map}
-use Rattle.std.proofs.lemmas.List.{length-map}
 use Rattle.std.proofs.lemmas.List.FromFn.{length-range_with_len}
 use mathlib.Core.Logic.{⊎_elim, inl, inr}
 use Rattle.ven_base.specs.declared.elem.Elem.{Elem}
 use Rattle.ven_base.specs.Elem.{size_of}
 use Rattle.pass_plan.specs.Tree.{AtLeaf, Literal, One, Two, Cast, Move, Select, is_computed, op_of, elem_of, from_of, operands_of}
-use Rattle.pass_plan.specs.Label.{label_of, least_label, needed}
+use Rattle.pass_plan.specs.Label.{label_of, needed}
 use Rattle.pass_plan.specs.Normal.{HasNormalSelects}
 use Rattle.pass_plan.specs.declared.turn.Turn.{Turn}
-use Rattle.pass_plan.specs.Numbers.{turns_of, places_of}
+use Rattle.pass_plan.specs.Numbers.{places_of}
 use Rattle.pass_plan.specs.NumberShown.{no_tree}
 use Rattle.pass_plan.proofs.Turns.{label_is}
 use Rattle.pass_plan.proofs.Each.{Each, Each-map, Each-both, EachPlace, EachPlace-map, EachPlace-both, operands_at, places_each, each_place, Distinct, places_apart, labels_by_place, no_turns}
 use Rattle.buffer_lifetimes.specs.declared.step.Operand.{Operand}
 use Rattle.buffer_lifetimes.specs.declared.step.Operand.TheVariants as operand
-use Rattle.buffer_lifetimes.specs.Step.{Tree, Step}
-use Rattle.buffer_lifetimes.specs.Order.{State, no_slots, put, IsArg, without, without_all, AreArgs, KeepsPlace, CanStep, after_step, Leads, IsOrder}
-use Rattle.buffer_lifetimes.specs.OrderOf.{Code, no_code, remove_slot, put_slot, Placed, placed, arg_for, args_for, first_slot, slot_kept, slot_written, step_for, node_code, code_of, order_of}
+use Rattle.buffer_lifetimes.specs.Step.{Tree}
+use Rattle.buffer_lifetimes.specs.Order.{State, no_slots, put, IsArg, without, without_all, AreArgs, KeepsPlace, CanStep, Leads}
+use Rattle.buffer_lifetimes.specs.OrderOf.{Code, no_code, remove_slot, put_slot, OperandsCode, operands_code, arg_for, args_for, first_slot, slot_kept, slot_written, step_for, node_code, code_of}
 use Rattle.buffer_lifetimes.specs.Laws.{HasOrder}
 use Rattle.buffer_lifetimes.proofs.Slots.{if_same, if_other, put_same, put_other}
 use Rattle.buffer_lifetimes.proofs.Trees.{Leads-append}
@@ -74,7 +73,7 @@ first_in : (xs : List ℕ) → 1 ≤ length xs → In (get_or xs 0 0) xs
 first_in [] h = absurd (omega arith)
 first_in (x ∷ xs) h = inl refl
 
--- ---- operands placed
+-- ---- operands with their slots
 
 -- a slot that holds nothing and is one of n
 abbrev IsEmpty : ℕ → State → ℕ → Type 0
@@ -89,7 +88,7 @@ Good : ℕ → Tree → (List ℕ → Code) → Type 0
 Good n tree code = (state : State) (free : List ℕ) → Distinct free → Each (IsEmpty n state) free → label_of tree ≤ length free → CodeRight n state tree free (code free)
 
 module _ (n : ℕ) (tree : ℕ → Tree) (codes : List (List ℕ → Code)) where
-  record PlacedRight (state : State) (free ks : List ℕ) (before : ℕ → ℕ) (p : Placed) : Type 0 where
+  record PlacedRight (state : State) (free ks : List ℕ) (before : ℕ → ℕ) (p : OperandsCode) : Type 0 where
     after : State
     leads : Leads n state p.steps after
     full : Each (λ k. after (p.slot k) ≡ Some (tree k)) ks
@@ -101,7 +100,7 @@ module _ (n : ℕ) (tree : ℕ → Tree) (codes : List (List ℕ → Code)) wher
     stays : (k : ℕ) → Each (λ j. j ≢ k) ks → p.slot k ≡ before k
 
   placed_right : (state : State) (free ks : List ℕ) (before : ℕ → ℕ) → Each (λ k. Good n (tree k) (get_or codes k no_code)) ks → Distinct ks → needed (map (λ k. label_of (tree k)) ks) ≤ length free → Distinct free
-      → Each (IsEmpty n state) free → PlacedRight state free ks before (placed ks codes before free)
+      → Each (IsEmpty n state) free → PlacedRight state free ks before (operands_code ks codes before free)
   unfolding Good
   placed_right state free [] before good apart enough distinct empty = record {
     after = state;
@@ -124,7 +123,7 @@ module _ (n : ℕ) (tree : ℕ → Tree) (codes : List (List ℕ → Code)) wher
       let empty1 : Each (IsEmpty n state1) free1 = Each-both (λ s. s ≢ to) (IsEmpty n state) (IsEmpty n state1) free1 (λ s other e. (put_other state to (Some (tree k)) s other ∙ e.0, e.1)) (remove-other to free) (Each-remove (IsEmpty n state) to free empty) in
       let before1 = put_slot before k to in
       let r = placed_right state1 free1 ks before1 good.1 apart.1 (omega arith) (Distinct-remove to free distinct) empty1 in
-      let rest = placed ks codes before1 free1 in
+      let rest = operands_code ks codes before1 free1 in
       let own : rest.slot k ≡ to = r.stays k apart.0 ∙ if_same k k to (before k) refl in
       let away : Each (λ q. rest.slot q ≢ to) ks = Each-map (λ q. In (rest.slot q) free1) (λ q. rest.slot q ≢ to) ks (λ q i. Each-in (λ s. s ≢ to) free1 (rest.slot q) (remove-other to free) i) r.in_free in
       record {
@@ -229,7 +228,7 @@ module _ (n : ℕ) (state : State) (free : List ℕ) (t : Tree) (empty : Each (I
   tree_at j = get_or (operands_of t) j no_tree
 
   -- a node after its operands, into a free slot that it may write
-  node_right : (codes : List (List ℕ → Code)) (before : ℕ → ℕ) (p : Placed) → is_computed t ≡ true → PlacedRight n tree_at codes state free (places_of t) before p
+  node_right : (codes : List (List ℕ → Code)) (before : ℕ → ℕ) (p : OperandsCode) → is_computed t ≡ true → PlacedRight n tree_at codes state free (places_of t) before p
       → (to : ℕ) → slot_written t (args_for ops p.slot 0) p.left ≡ to → In to free → KeepsPlace (op_of t) (elem_of t) (from_of t) (args_for ops p.slot 0) to
       → CodeRight n state t free (record { steps = p.steps ++ step_for t (args_for ops p.slot 0) p.left ∷ []; to = slot_written t (args_for ops p.slot 0) p.left })
   node_right codes before p inner right to writes in_free place =
@@ -290,7 +289,7 @@ first_free t slot free left in_slot more many one =
 
 -- what every node has before its own step
 record Ready (n : ℕ) (state : State) (t : Tree) (free : List ℕ) (codes : List (List ℕ → Code)) : Type 0 where
-  right : PlacedRight n (λ j. get_or (operands_of t) j no_tree) codes state free (places_of t) (λ k. 0) (placed (places_of t) codes (λ k. 0) free)
+  right : PlacedRight n (λ j. get_or (operands_of t) j no_tree) codes state free (places_of t) (λ k. 0) (operands_code (places_of t) codes (λ k. 0) free)
 
 ready : (n : ℕ) (state : State) (t : Tree) (free : List ℕ) → is_computed t ≡ true → EachPlace (λ j u. is_computed u ≡ true → Good n u (code_of u)) (operands_of t) 0 → label_of t ≤ length free → Distinct free → Each (IsEmpty n state) free
     → Ready n state t free (map code_of (operands_of t))
@@ -313,7 +312,7 @@ plain_right : (n : ℕ) (state : State) (free : List ℕ) (t : Tree) → is_comp
 plain_right n state free t inner good enough one distinct empty keeps place =
     let all = (ready n state t free inner good enough distinct empty).right in
     let codes = map code_of (operands_of t) in
-    let p = placed (places_of t) codes (λ k. 0) free in
+    let p = operands_code (places_of t) codes (λ k. 0) free in
     let args = args_for (operands_of t) p.slot 0 in
     let to = option_map_or (λ s. s) (first_slot args) (get_or p.left 0 0) in
     let in_free = first_free t p.slot free p.left (each_place (λ j. In (p.slot j) free) t all.in_free) (λ s i. (all.left_in s i).0) all.left_many one in
@@ -326,7 +325,7 @@ select_right n state free elem c x y third good enough distinct empty =
     let t = Select elem c x y in
     let all = (ready n state t free refl good enough distinct empty).right in
     let codes = map code_of (operands_of t) in
-    let p = placed (places_of t) codes (λ k. 0) free in
+    let p = operands_code (places_of t) codes (λ k. 0) free in
     let arg = arg-computed y (p.slot 2) third in
     let in_slot = each_place (λ j. In (p.slot j) free) t all.in_free in
     node_right n state free t empty codes (λ k. 0) p refl all (p.slot 2) (ap (λ a. option_map_or (λ s. s) (first_slot (a ∷ [])) (get_or p.left 0 0)) arg) (in_slot.1.1.0 third) arg
@@ -372,7 +371,7 @@ cast_right n state free elem from a differ good enough distinct empty =
     let t = Cast elem from a in
     let all = (ready n state t free refl good enough distinct empty).right in
     let codes = map code_of (operands_of t) in
-    let p = placed (places_of t) codes (λ k. 0) free in
+    let p = operands_code (places_of t) codes (λ k. 0) free in
     let to = get_or p.left 0 0 in
     let test = ne_eqb (size_of elem) (size_of from) differ in
     let least : (if is_computed a && not (size_of elem == size_of from) then 2 else 1) ≤ length free = omega arith in

@@ -5,3 +5,4 @@ pub mod Counts
 pub mod Parts
 pub mod Lawful
 pub mod Evaluation
+pub mod Types

@@ -1,16 +1,16 @@
 -- The steps of an order work out parts of its tree, and end with the tree itself; in place only with one element size.
-use Rattle.std.proofs.Common.{◌⊎◌, ◌≡◌, ◌≢◌, ℕ, zero, suc, ◌+◌, ◌<◌, inl, inr, ap, sym, ◌∙◌, subst, refl, arith, List, [], ◌∷◌, ◌++◌, length, get_or, Bool, true, false}
-use Rattle.std.specs.Prelude.{Option, Some, None, Contains, slice_index_or}
+use Rattle.std.proofs.Common.{◌≡◌, ℕ, zero, suc, inl, inr, ap, sym, ◌∙◌, subst, refl, arith, List, [], ◌∷◌, true}
+use Rattle.std.specs.Prelude.{Some, Contains}
 use Rattle.std.proofs.lemmas.Bool.{cases_eq, false≢true}
 use Rattle.ven_base.specs.Elem.{size_of}
 use Rattle.pass_plan.specs.Tree.{AtLeaf, Literal, One, Two, Cast, Move, Select, is_computed, op_of, elem_of, from_of, operands_of}
 use Rattle.buffer_lifetimes.specs.declared.step.Operand.{Operand}
 use Rattle.buffer_lifetimes.specs.declared.step.Operand.TheVariants as operand
 use Rattle.buffer_lifetimes.specs.Step.{Tree, Step}
-use Rattle.buffer_lifetimes.specs.Order.{State, no_slots, put, without_all, AreArgs, KeepsPlace, CanStep, after_step, Leads, IsOrder}
+use Rattle.buffer_lifetimes.specs.Order.{State, no_slots, put, without_all, AreArgs, KeepsPlace, CanStep, after_step, Leads}
 use Rattle.buffer_lifetimes.specs.Laws.{IsPart, itself, below, LeadsIn, WorksOutParts, EndsWithRoot, OneSizeInPlace}
 use Rattle.buffer_lifetimes.proofs.Slots.{put_same, put_other, none_some, some_same}
-use Rattle.buffer_lifetimes.proofs.Trees.{IsOne, AreComputed, computed_after, none_computed, HoldsOfAll, holds_of_made, holds_before, holds_from, Leads-split}
+use Rattle.buffer_lifetimes.proofs.Trees.{IsOne, AreComputed, computed_after, none_computed, HoldsOfAll, holds_of_made, holds_from, Leads-split}
 
 contains_one : (u : Tree) (ts : List Tree) → IsOne u ts → Contains ts u
 contains_one u [] one = absurd one

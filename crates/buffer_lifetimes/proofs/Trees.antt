@@ -1,12 +1,12 @@
 -- What holds of a tree and passes on to its computed operands holds of the tree of each step.
-use Rattle.std.proofs.Common.{◌⊎◌, ◌≡◌, ◌≢◌, ℕ, inl, inr, ap, sym, ◌∙◌, subst, refl, List, [], ◌∷◌, ◌++◌, Bool, true, false}
-use Rattle.std.specs.Prelude.{Option, Some, None}
-use Rattle.std.proofs.lemmas.Bool.{cases_eq, false≢true}
+use Rattle.std.proofs.Common.{◌⊎◌, ◌≡◌, ℕ, inl, inr, ap, sym, ◌∙◌, subst, refl, List, [], ◌∷◌, ◌++◌, true}
+use Rattle.std.specs.Prelude.{Some, None}
+use Rattle.std.proofs.lemmas.Bool.{cases_eq}
 use Rattle.pass_plan.specs.Tree.{AtLeaf, Literal, One, Two, Cast, Move, Select, is_computed, operands_of}
 use Rattle.buffer_lifetimes.specs.declared.step.Operand.{Operand}
 use Rattle.buffer_lifetimes.specs.declared.step.Operand.TheVariants as operand
 use Rattle.buffer_lifetimes.specs.Step.{Tree, Step}
-use Rattle.buffer_lifetimes.specs.Order.{State, no_slots, put, IsArg, without, without_all, AreArgs, CanStep, after_step, Leads}
+use Rattle.buffer_lifetimes.specs.Order.{State, no_slots, IsArg, without, without_all, AreArgs, CanStep, after_step, Leads}
 use Rattle.buffer_lifetimes.proofs.Slots.{put_same, put_other, none_some, some_same}
 
 -- this tree is one of these

@@ -1,6 +1,6 @@
 -- Lawful steps give the tree's values.
-use Rattle.std.proofs.Common.{◌≡◌, ◌≢◌, ℕ, List, [], ◌∷◌, refl, sym, ap, ◌∙◌, subst, Bool, true, false}
-use Rattle.std.specs.Prelude.{ℤ, Option, Some, None, ◌==◌, if◌then◌else◌, map}
+use Rattle.std.proofs.Common.{◌≡◌, ℕ, List, [], ◌∷◌, refl, sym, ap, ◌∙◌, subst, true}
+use Rattle.std.specs.Prelude.{ℤ, Some, None, map}
 use Rattle.std.proofs.lemmas.Bool.{cases_eq, false≢true}
 use mathlib.Core.Logic.{⊎_elim}
 use Rattle.pass_plan.specs.Tree.{AtLeaf, Literal, One, Two, Cast, Move, Select, value_of, is_computed, op_of, elem_of, operands_of}

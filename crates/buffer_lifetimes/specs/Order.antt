@@ -1,5 +1,5 @@
 -- Lawful orders of evaluation: steps on slots, and the tree that each slot holds.
-use Rattle.std.specs.Prelude.{◌≡◌, ◌≢◌, ℕ, ◌<◌, ℤ, pos, List, [], ◌∷◌, map, get_or, Bool, true, false, ◌==◌, if◌then◌else◌, Option, Some, None}
+use Rattle.std.specs.Prelude.{◌≡◌, ℕ, ◌<◌, ℤ, pos, List, [], ◌∷◌, map, get_or, true, ◌==◌, if◌then◌else◌, Option, Some, None}
 use Rattle.ven_base.specs.declared.elem.Elem.{Elem}
 use Rattle.ven_base.specs.Elem.{size_of}
 use Rattle.ven_base.specs.Wrap.{wrapped}
@@ -58,8 +58,8 @@ KeepsPlace tree_op.Select elem from args to = get_or args 2 no_operand ≡ opera
 KeepsPlace tree_op.Cast elem from args to = get_or args 0 no_operand ≡ operand.Slot to → size_of from ≡ size_of elem
 KeepsPlace _ elem from args to = Unit {0}
 
--- the step works out this tree: it has its root's operation and types, its operands are at hand, and it writes no slot whose value is still
--- to be read by another
+-- the step works out this tree: it has its root's operation and types, its operands are at hand, and it writes no
+-- slot whose value is still to be read by another
 pub record CanStep (slots : ℕ) (state : State) (step : Step) (t : Tree) : Type 0 where
   pub inner : is_computed t ≡ true
   pub op_is : step.op ≡ op_of t
@@ -76,7 +76,8 @@ after_step state step t = put (without_all state step.args) step.to (Some t)
 -- the steps lead from one state to another
 abbrev pub Leads : ℕ → State → List Step → State → Type 0
 Leads slots state [] last = state ≡ last
-Leads slots state (step ∷ steps) last = (t : Tree) × CanStep slots state step t × Leads slots (after_step state step t) steps last
+Leads slots state (step ∷ steps) last =
+    (t : Tree) × CanStep slots state step t × Leads slots (after_step state step t) steps last
 
 -- an order of a tree: from empty slots to the tree alone
 pub record IsOrder (tree : Tree) (slots : ℕ) (steps : List Step) (to : ℕ) : Type 0 where
@@ -110,4 +111,5 @@ put_values slots s value k = if k == s then value else slots k
 
 abbrev pub slots_after : Values → List Step → Values → Values
 slots_after leaves [] slots = slots
-slots_after leaves (step ∷ steps) slots = slots_after leaves steps (put_values slots step.to (step_value leaves slots step))
+slots_after leaves (step ∷ steps) slots =
+    slots_after leaves steps (put_values slots step.to (step_value leaves slots step))

@@ -6,7 +6,7 @@ use Rattle.ven_base.specs.declared.elem.Elem.{Elem}
 use Rattle.ven_base.specs.Elem.{size_of}
 use Rattle.pass_plan.specs.declared.tree.TreeOp.{TreeOp}
 use Rattle.pass_plan.specs.declared.tree.TreeOp.TheVariants as tree_op
-use Rattle.pass_plan.specs.Tree.{AtLeaf, Literal, One, Two, Cast, Move, Select, is_computed, op_of, elem_of, from_of, operands_of}
+use Rattle.pass_plan.specs.Tree.{AtLeaf, Literal, One, Two, Cast, Move, Select, op_of, elem_of, from_of, operands_of}
 use Rattle.pass_plan.specs.Label.{label_of}
 use Rattle.pass_plan.specs.Numbers.{places_of}
 use Rattle.buffer_lifetimes.specs.declared.step.Operand.{Operand}
@@ -30,17 +30,17 @@ abbrev pub put_slot : (ℕ → ℕ) → ℕ → ℕ → (ℕ → ℕ)
 put_slot slot place s k = if k == place then s else slot k
 
 -- operands that were worked out one after another: their steps, the slot of each, and the slots that are left
-pub record Placed : Type 0 where
+pub record OperandsCode : Type 0 where
   pub steps : List Step
   pub slot : ℕ → ℕ
   pub left : List ℕ
 
 -- each operand in turn takes a slot of those that are free
-abbrev pub placed : List ℕ → List (List ℕ → Code) → (ℕ → ℕ) → List ℕ → Placed
-placed [] codes slot free = record { steps = []; slot = slot; left = free }
-placed (place ∷ places) codes slot free =
+abbrev pub operands_code : List ℕ → List (List ℕ → Code) → (ℕ → ℕ) → List ℕ → OperandsCode
+operands_code [] codes slot free = record { steps = []; slot = slot; left = free }
+operands_code (place ∷ places) codes slot free =
     let code = get_or codes place no_code free in
-    let rest = placed places codes (put_slot slot place code.to) (remove_slot code.to free) in
+    let rest = operands_code places codes (put_slot slot place code.to) (remove_slot code.to free) in
     record { steps = code.steps ++ rest.steps; slot = rest.slot; left = rest.left }
 
 -- the arguments of a node, where its operands are at these slots; the first has place k
@@ -60,7 +60,8 @@ first_slot (operand.Leaf k ∷ args) = first_slot args
 first_slot (operand.Literal n ∷ args) = first_slot args
 first_slot (operand.Slot s ∷ args) = Some s
 
--- the operand's slot that a node writes: a select that of its third, a cast that changes the size none, any other the first computed one's
+-- the operand's slot that a node writes: a select that of its third, a cast that changes the size none, any other the
+-- first computed one's
 abbrev pub slot_kept : TreeOp → Elem → Elem → List Operand → Option ℕ
 slot_kept tree_op.Select elem from args = first_slot (drop 2 args)
 slot_kept tree_op.Cast elem from args = if size_of elem == size_of from then first_slot args else None
@@ -71,12 +72,13 @@ abbrev pub slot_written : Tree → List Operand → List ℕ → ℕ
 slot_written t args left = option_map_or (λ s. s) (slot_kept (op_of t) (elem_of t) (from_of t) args) (get_or left 0 0)
 
 abbrev pub step_for : Tree → List Operand → List ℕ → Step
-step_for t args left = record { op = op_of t; elem = elem_of t; from = from_of t; args = args; to = slot_written t args left }
+step_for t args left =
+    record { op = op_of t; elem = elem_of t; from = from_of t; args = args; to = slot_written t args left }
 
 -- a node: its computed operands in turn, and then its own step
 abbrev pub node_code : Tree → List (List ℕ → Code) → List ℕ → Code
 node_code t codes free =
-    let all = placed (places_of t) codes (λ k. 0) free in
+    let all = operands_code (places_of t) codes (λ k. 0) free in
     let step = step_for t (args_for (operands_of t) all.slot 0) all.left in
     record { steps = all.steps ++ step ∷ []; to = step.to }
 

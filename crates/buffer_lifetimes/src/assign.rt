@@ -20,9 +20,9 @@ use ven_base::Elem;
 
 /// The order of a tree: one step for each inner node, on as many slots as the tree's label, the root's step last.
 ///
-/// Computed operands are worked out in falling order of label, the left one first where labels are equal, each in the slots that are
-/// still free. A node writes the slot of its first computed operand from the left, a select that of its third; one without a computed
-/// operand, or a cast that changes the size, writes the free slot of least number.
+/// Computed operands are worked out in falling order of label, the left one first where labels are equal, each in the
+/// slots that are still free. A node writes the slot of its first computed operand from the left, a select that of
+/// its third; one without a computed operand, or a cast that changes the size, writes the free slot of least number.
 pub fn order(alloc: Global, tree: &Tree) -> Result<Assigned, AllocError>
     requires normal { IsNormal (tree_of tree.now) }
     requires nodes { nodes_of (tree_of tree.now) ≤ node_limit }

@@ -34,7 +34,7 @@ fn cast(alloc: Global, elem: Elem, from: Elem, a: Tree) -> Result<Tree, AllocErr
     Ok(Tree::Cast { elem, from, a })
 }
 
-fn moved(alloc: Global, elem: Elem, a: Tree) -> Result<Tree, AllocError> {
+fn move_of(alloc: Global, elem: Elem, a: Tree) -> Result<Tree, AllocError> {
     let a = Box::new(alloc, a)?;
     Ok(Tree::Move { elem, a })
 }
@@ -52,7 +52,7 @@ fn sum(alloc: Global) -> Result<Tree, AllocError> {
 }
 
 /// A comparison of a sum and a leaf.
-fn compared(alloc: Global) -> Result<Tree, AllocError> {
+fn comparison(alloc: Global) -> Result<Tree, AllocError> {
     let sum = sum(alloc)?;
     two(alloc, Op2::Lt, Elem::U8, sum, leaf(2))
 }
@@ -137,8 +137,8 @@ fn nodes_within(tree: &Tree, limit: u32) -> Option<u32>
 }
 
 /// The order of a tree under a move of it.
-fn ordered(alloc: Global, tree: Tree) -> Result<(Tree, Assigned), Fail> {
-    let tree = moved(alloc, Elem::U8, tree)?;
+fn order_below_move(alloc: Global, tree: Tree) -> Result<(Tree, Assigned), Fail> {
+    let tree = move_of(alloc, Elem::U8, tree)?;
     if nodes_within(&tree, 8192).is_none() || !is_normal(&tree) || !works(&tree) || selects(&tree) {
         return Err(Fail::new("no normal tree"));
     }
@@ -195,8 +195,8 @@ fn text_of(alloc: Global, tree: &Tree) -> Result<String, AllocError> {
     }
 }
 
-/// What an argument is, taken out of its slot.
-fn taken(
+/// The text of an argument, taken out of its slot.
+fn argument_text(
     alloc: Global,
     slots: &mut Vec<Option<String>>,
     arg: Operand,
@@ -228,7 +228,7 @@ fn done(
 ) -> Result<bool, AllocError> {
     let mut args = Vec::new(alloc);
     for arg in step.args.as_slice() {
-        match taken(alloc, slots, *arg)? {
+        match argument_text(alloc, slots, *arg)? {
             Some(text) => args.push(text)?,
             None => return Ok(false),
         }
@@ -269,7 +269,7 @@ fn is_order(alloc: Global, tree: &Tree, assigned: &Assigned) -> Result<bool, All
 }
 
 /// The steps as a text: operation, arguments and slot of each.
-fn shown(alloc: Global, assigned: &Assigned) -> Result<String, AllocError> {
+fn steps_text(alloc: Global, assigned: &Assigned) -> Result<String, AllocError> {
     let mut text = String::new(alloc);
     for step in assigned.steps.as_slice() {
         let line = format!(in alloc; "{:?} {:?} {}; ", step.op, step.args.as_slice(), step.to)?;
@@ -279,7 +279,7 @@ fn shown(alloc: Global, assigned: &Assigned) -> Result<String, AllocError> {
 }
 
 /// A tree made by a counter: every operation, leaves and literals in each place.
-fn made(alloc: Global, seed: &mut u32, height: u32) -> Result<Tree, AllocError> {
+fn counter_tree(alloc: Global, seed: &mut u32, height: u32) -> Result<Tree, AllocError> {
     *seed = seed.wrapping_mul(1_664_525).wrapping_add(1_013_904_223);
     let pick = *seed / 65_536 % 9;
     if height == 0 || pick < 2 {
@@ -289,22 +289,22 @@ fn made(alloc: Global, seed: &mut u32, height: u32) -> Result<Tree, AllocError> 
             Tree::Literal(7)
         });
     }
-    let a = made(alloc, seed, height - 1)?;
+    let a = counter_tree(alloc, seed, height - 1)?;
     match pick {
         2 => one(alloc, Op1::Neg, Elem::I16, a),
         3 => cast(alloc, Elem::U16, Elem::U8, a),
         4 => cast(alloc, Elem::U8, Elem::I32, a),
         5 => cast(alloc, Elem::I16, Elem::U16, a),
         6 | 7 => {
-            let b = made(alloc, seed, height - 1)?;
+            let b = counter_tree(alloc, seed, height - 1)?;
             two(alloc, Op2::Xor, Elem::U8, a, b)
         }
         _ => {
-            let b = made(alloc, seed, height - 1)?;
+            let b = counter_tree(alloc, seed, height - 1)?;
             let c = two(alloc, Op2::Ge, Elem::U8, a, b)?;
-            let x = made(alloc, seed, height - 1)?;
-            let y = made(alloc, seed, height - 1)?;
-            let y = moved(alloc, Elem::U8, y)?;
+            let x = counter_tree(alloc, seed, height - 1)?;
+            let y = counter_tree(alloc, seed, height - 1)?;
+            let y = move_of(alloc, Elem::U8, y)?;
             select(alloc, Elem::U8, c, x, y)
         }
     }
@@ -312,7 +312,7 @@ fn made(alloc: Global, seed: &mut u32, height: u32) -> Result<Tree, AllocError> 
 
 /// Asserts that the order is one, on as many slots as the label.
 fn assert_order<R: Abort>(rt: &R, alloc: Global, tree: Tree) -> Result<Assigned, Fail> {
-    let (tree, assigned) = ordered(alloc, tree)?;
+    let (tree, assigned) = order_below_move(alloc, tree)?;
     assert!(rt; is_order(alloc, &tree, &assigned)?);
     Ok(assigned)
 }
@@ -325,20 +325,20 @@ fn product(alloc: Global) -> Result<Tree, AllocError> {
 }
 
 /// A select of three computed operands.
-fn chosen(alloc: Global) -> Result<Tree, AllocError> {
-    let y = moved(alloc, Elem::U8, leaf(3))?;
-    select(alloc, Elem::U8, compared(alloc)?, sum(alloc)?, y)
+fn three_operands(alloc: Global) -> Result<Tree, AllocError> {
+    let y = move_of(alloc, Elem::U8, leaf(3))?;
+    select(alloc, Elem::U8, comparison(alloc)?, sum(alloc)?, y)
 }
 
-fn widened(alloc: Global) -> Result<Tree, AllocError> {
+fn wide_sum(alloc: Global) -> Result<Tree, AllocError> {
     cast(alloc, Elem::U16, Elem::U8, sum(alloc)?)
 }
 
 /// Whether these are the steps of the tree's order.
 fn has_steps(alloc: Global, tree: Tree, steps: &str) -> Result<bool, Fail> {
-    let (_tree, assigned) = ordered(alloc, tree)?;
-    let shown = shown(alloc, &assigned)?;
-    Ok(shown.as_str() == steps)
+    let (_tree, assigned) = order_below_move(alloc, tree)?;
+    let text = steps_text(alloc, &assigned)?;
+    Ok(text.as_str() == steps)
 }
 
 #[test]
@@ -354,14 +354,14 @@ fn steps_of_small_trees(rt: HostRuntime) -> Result<(), Fail> {
     assert!(rt;
         has_steps(
             alloc,
-            widened(alloc)?,
+            wide_sum(alloc)?,
             "Two(Add) [Leaf(0), Leaf(1)] 0; Cast [Slot(0)] 1; Move [Slot(1)] 1; "
         )?
     );
     assert!(rt;
         has_steps(
             alloc,
-            chosen(alloc)?,
+            three_operands(alloc)?,
             "Two(Add) [Leaf(0), Leaf(1)] 0; Two(Lt) [Slot(0), Leaf(2)] 0; Two(Add) [Leaf(0), Leaf(1)] 1; Move [Leaf(3)] 2; Select [Slot(0), Slot(1), Slot(2)] 2; Move [Slot(2)] 2; "
         )?
     );
@@ -378,7 +378,7 @@ fn orders_of_many_trees(rt: HostRuntime) -> Result<(), Fail> {
     let mut seed = 1;
     let mut most = 0;
     for _ in 0..300 {
-        let assigned = assert_order(&rt, alloc, made(alloc, &mut seed, 5)?)?;
+        let assigned = assert_order(&rt, alloc, counter_tree(alloc, &mut seed, 5)?)?;
         most = assigned.slots.max(most);
     }
     assert!(rt; most == 5);
@@ -388,14 +388,14 @@ fn orders_of_many_trees(rt: HostRuntime) -> Result<(), Fail> {
 #[test]
 fn orders_of_the_largest_trees(rt: HostRuntime) -> Result<(), Fail> {
     let alloc = rt.alloc();
-    let (_tree, assigned) = ordered(alloc, full(alloc, 12)?)?;
+    let (_tree, assigned) = order_below_move(alloc, full(alloc, 12)?)?;
     assert_eq!(rt; assigned.slots, 11);
     assert_eq!(rt; assigned.steps.len(), 2_048);
     let mut chain = leaf(0);
     for _ in 0..8_190 {
         chain = one(alloc, Op1::Neg, Elem::U8, chain)?;
     }
-    let (_tree, assigned) = ordered(alloc, chain)?;
+    let (_tree, assigned) = order_below_move(alloc, chain)?;
     assert_eq!(rt; assigned.slots, 1);
     assert_eq!(rt; assigned.steps.len(), 8_191);
     Ok(())

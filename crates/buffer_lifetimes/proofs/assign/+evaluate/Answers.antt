@@ -1,10 +1,10 @@
-use Rattle.std.proofs.Common.{rules, ◌≡◌, ℕ, ◌+◌, ◌<◌, ◌≤◌, [], ◌∷◌, ◌++◌, length, get_or, ap, ◌∙◌, sym, subst, arith, true, refl}
+use Rattle.std.proofs.Common.{rules, ◌≡◌, ℕ, ◌<◌, ◌≤◌, [], ◌∷◌, ◌++◌, length, get_or, ap, ◌∙◌, sym, subst, arith, true, refl}
 use Rattle.std.proofs.lemmas.Result.{IfOk-weaker}
 use Rattle.std.proofs.lemmas.List.{length-set, length-map}
 use Rattle.pass_plan.specs.Tree.{nodes_of, is_computed, operands_of}
 use Rattle.pass_plan.specs.Shown.{tree_of}
 use Rattle.pass_plan.specs.declared.turn.Turn.{Turn}
-use Rattle.pass_plan.specs.Numbers.{places_of, operand_number}
+use Rattle.pass_plan.specs.Numbers.{places_of}
 use Rattle.pass_plan.specs.NumberShown.{no_tree}
 use Rattle.pass_plan.proofs.Operands.{operand_smaller}
 use Rattle.buffer_lifetimes.specs.Step.{steps_of}

@@ -1,0 +1,9 @@
+pub mod Nodes
+pub mod LowerBound
+pub mod OneStep
+pub mod Orders
+pub mod Places
+pub mod Ranges
+pub mod Coming
+pub mod Most
+pub mod Waiting
