@@ -26,7 +26,9 @@ cat > crates/beats/src/main.rt << 'PROGRAM'
 
 ghost use Rattle.std.specs.Prelude.{◌≡◌, ◌<◌, ◌≤◌, IsTrue, length};
 ghost use Rattle.venice_isa.specs.Whole.{HasCounts};
-ghost use Rattle.lane_machine.specs.Group.{IsInside};
+ghost use Rattle.ven_base.specs.Store.{cells_alone};
+ghost use Rattle.venice_isa.specs.Footprint.{HasFootprint};
+ghost use Rattle.venice_isa.specs.declared.issue.Issue.TheVariants.{Vector};
 
 use lane_machine::Lanes;
 use spad_store::{MainMem, Spad, Unit};
@@ -65,7 +67,7 @@ const OPS: [VecOp; 19] = [
 
 /// Whether every cell that the instruction reads or writes lies below the end.
 fn lies_below(work: &VecWork, end: u32) -> bool
-    ensures { IsTrue result → IsInside work.now end }
+    ensures { IsTrue result → HasFootprint (cells_alone end) (Vector work.now) }
 {
     work.is_in_range(end)
 }
@@ -75,7 +77,7 @@ fn run(alloc: Global, lanes: u32, work: VecWork, cells: &mut Spad) -> Result<u64
     requires some_lanes { 0 < lanes }
     requires few_lanes { lanes ≤ 4 }
     requires counts { HasCounts work }
-    requires inside { IsInside work (length cells.old) }
+    requires inside { HasFootprint (cells_alone (length cells.old)) (Vector work) }
     ensures { length cells.new ≡ length cells.old }
 {
     let mut memory = MainMem::new(alloc, 0)?;

@@ -1,0 +1,4 @@
+pub mod Currents
+pub mod Kept
+pub mod Copies
+pub mod Beaten

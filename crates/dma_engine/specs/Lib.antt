@@ -1,0 +1,5 @@
+pub mod Direction
+pub mod Transfers
+pub mod Current
+pub mod Channel
+pub mod Laws
