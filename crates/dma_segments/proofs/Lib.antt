@@ -1,0 +1,16 @@
+pub mod Lists
+pub mod AxisRuns
+pub mod PiecePatches
+pub mod Axes
+pub mod Product
+pub mod Joins
+pub mod Bytes
+pub mod Listed
+pub mod Pieces
+pub mod Counts
+pub mod Rooms
+pub mod Puts
+pub mod Effects
+pub mod Values
+pub mod Takes
+pub mod WriteEffects

@@ -1,0 +1,11 @@
+pub mod Run
+pub mod Patch
+pub mod Moves
+pub mod ReadList
+pub mod WriteList
+pub mod Examples
+pub mod Put
+pub mod Taken
+pub mod Effect
+pub mod Laws
+pub mod Rooms
