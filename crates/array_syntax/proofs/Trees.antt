@@ -15,7 +15,7 @@ use Rattle.array_syntax.specs.Tree.{Tree, node_at, placed, tree_of}
 abbrev pub expr : ℕ → ExprKind → Expr
 expr at kind = record { at = at; kind = kind }
 
-tree_rolled : (at : ℕ) (kind : ExprKind) → tree_of (expr at kind) ≡ fold-ExprKind (ℕ → Tree) Tree node_at placed kind at
+pub tree_rolled : (at : ℕ) (kind : ExprKind) → tree_of (expr at kind) ≡ fold-ExprKind (ℕ → Tree) Tree node_at placed kind at
 unfolding tree_of
 tree_rolled at kind = fold-roll-Expr (ℕ → Tree) Tree node_at placed (record { at = at; kind = kind })
 

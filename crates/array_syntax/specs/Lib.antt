@@ -1,2 +1,11 @@
-pub mod Limits
 pub mod Tree
+pub mod Limits
+pub mod Table
+pub mod Words
+pub mod Grammar
+pub mod Faults
+pub mod Reading
+pub mod Steps
+pub mod Parsing
+pub mod Printed
+pub mod Laws

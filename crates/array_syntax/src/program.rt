@@ -12,7 +12,8 @@ pub struct Program {
 /// A statement. `at` is the place of its name, in bytes from 0.
 #[derive(Debug, Drop)]
 pub enum Stmt {
-    /// `input NAME TYPE [ rows , cols ] ;` with any numbers from 0 to 4,294,967,295. `shape_at` is the place of the `[`.
+    /// `input NAME TYPE [ rows , cols ] ;` with any numbers from 0 to 4,294,967,295. `shape_at` is the place of
+    /// the `[`.
     Input {
         name: Name,
         at: u32,
@@ -35,8 +36,8 @@ pub enum Stmt {
     },
 }
 
-/// An expression. `at` is the place of its name, number, sign, type or function, in bytes from 0; a literal's sign is part
-/// of its number.
+/// An expression. `at` is the place of its name, number, sign, type or function, in bytes from 0; a literal's sign is
+/// part of its number.
 #[derive(Debug, Drop)]
 #[cycle(expr)]
 pub struct Expr {

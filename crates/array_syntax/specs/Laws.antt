@@ -1,0 +1,9 @@
+-- What the definitions of the grammar settle.
+use Rattle.std.specs.Prelude.{◌≡◌, List}
+use Rattle.array_syntax.specs.declared.program.Stmt.{Stmt}
+use Rattle.array_syntax.specs.declared.word.Token.{Token}
+use Rattle.array_syntax.specs.Grammar.{AreStatements}
+
+-- tokens are one list of statements at most
+abbrev pub HasOneReading : Type 0
+HasOneReading = (tokens : List Token) (one other : List Stmt) → AreStatements tokens one → AreStatements tokens other → one ≡ other
