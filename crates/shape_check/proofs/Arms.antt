@@ -1,6 +1,6 @@
 -- What code answers at an arm and at an exit, against the verdict.
-use Rattle.std.proofs.Common.{◌≡◌, ℕ, List, refl, sym, ap, ◌∙◌, subst, arith, Bool, true, false, Ok, Err}
-use Rattle.std.specs.Prelude.{ℤ, pos, negsuc, ◌<◌, ◌^◌, Result, IsErrAnd, if◌then◌else◌, not}
+use Rattle.std.proofs.Common.{◌≡◌, ℕ, List, sym, ap, ◌∙◌, subst, arith, Bool, true, false, Ok, Err}
+use Rattle.std.specs.Prelude.{ℤ, pos, negsuc, ◌<◌, ◌^◌, Result, IsErrAnd, if◌then◌else◌}
 use Rattle.ven_base.specs.declared.elem.Elem.{Elem}
 use Rattle.ven_base.specs.declared.ops.Fold.{Fold as Reduction}
 use Rattle.ven_base.specs.declared.ops.Op1.{Op1}
@@ -18,7 +18,7 @@ use Rattle.array_syntax.specs.Tree as trees
 use Rattle.array_syntax.specs.Tree.{tree_of}
 use Rattle.array_syntax.proofs.Trees.{tree_name, tree_literal, tree_one, tree_two, tree_cast, tree_select, tree_shift, tree_rotate, tree_section, tree_stretch, tree_transpose, tree_row_fold, tree_fold}
 use Rattle.shape_check.specs.declared.fault.CheckFault.{CheckFault}
-use Rattle.shape_check.specs.declared.fault.CheckFault.TheVariants.{Twice, Unknown, TypeMismatch, ShapeMismatch, LiteralAlone, LiteralRange, BadShape, BadSection, BadStretch, NoOutput, TooMuchWork, Memory}
+use Rattle.shape_check.specs.declared.fault.CheckFault.TheVariants.{Memory}
 use Rattle.shape_check.specs.Judge.{chain, Refuses, Answers}
 
 -- ---- exits

@@ -1,13 +1,13 @@
 -- Nodes that break no rule, and the first rule that a node breaks.
-use Rattle.std.proofs.Common.{◌≡◌, ℕ, ◌+◌, ◌<◌, ◌≤◌, List, [], ◌∷◌, ◌++◌, refl, sym, ap, ◌∙◌, subst, arith, append_assoc, Option, None, Some, Bool, true, false, inl, inr}
-use Rattle.std.specs.Prelude.{All, ◌⊎◌}
+use Rattle.std.proofs.Common.{◌≡◌, ℕ, ◌<◌, ◌≤◌, List, [], ◌∷◌, ◌++◌, refl, sym, ap, ◌∙◌, arith, append_assoc, Option, None, Some, inl, inr}
+use Rattle.std.specs.Prelude.{All}
 use Rattle.std.proofs.lemmas.Bool.{cases_lt}
 use Rattle.std.proofs.lemmas.List.Elements.{All-nil, All-cons, All-append}
-use Rattle.array_syntax.specs.Tree.{Tree, Name, Literal, One, Two, Cast, Select, Shift, Rotate, Section, Stretch, Transpose, RowFold, Fold}
+use Rattle.array_syntax.specs.Tree.{Tree}
 use Rattle.shape_check.specs.declared.fault.CheckFault.{CheckFault}
 use Rattle.shape_check.specs.declared.fault.CheckFault.TheVariants.{Twice, Unknown, TypeMismatch, ShapeMismatch, LiteralAlone, LiteralRange, BadShape, BadSection, BadStretch, NoOutput, TooMuchWork, Memory}
 use Rattle.shape_check.specs.Scope.{Scope}
-use Rattle.shape_check.specs.Faults.{lone_literal, literal_place, place_of, DifferInType, DifferInShape, HasTwo, IsFirstOut, IsBadSection, IsBadStretch, IsUnknown, BreaksAt, rank_of}
+use Rattle.shape_check.specs.Faults.{lone_literal, DifferInType, DifferInShape, HasTwo, IsFirstOut, IsBadSection, IsBadStretch, IsUnknown, BreaksAt, rank_of}
 
 pub record IsClean (scope : Scope) (tree : Tree) : Type 0 where
   pub none : (f : CheckFault) → BreaksAt scope tree f → ⊥

@@ -1,31 +1,28 @@
 -- The verdict on an expression is its checked tree, or its first fault.
-use Rattle.std.proofs.Common.{◌≡◌, ◌≢◌, ℕ, ◌+◌, ◌<◌, ◌≤◌, List, [], ◌∷◌, ◌++◌, refl, sym, ap, ◌∙◌, subst, arith, Option, None, Some, Bool, true, false, inl, inr, Ok, Err, Contains}
-use Rattle.std.specs.Prelude.{ℤ, Result, All, slice_get, ◌⊎◌, ◌&&◌, if◌then◌else◌, map}
+use Rattle.std.proofs.Common.{◌≡◌, ◌≢◌, ℕ, List, [], ◌∷◌, ◌++◌, refl, sym, ap, ◌∙◌, subst, arith, None, Some, Bool, true, false, inl, inr, Ok, Err}
+use Rattle.std.specs.Prelude.{ℤ, Result, All, ◌⊎◌, ◌&&◌, if◌then◌else◌}
 use Rattle.ven_base.specs.declared.elem.Elem.{Elem}
-use Rattle.ven_base.specs.declared.ops.Op2.{Op2}
 use Rattle.ven_base.specs.declared.mapping.Mapping.{Mapping}
 use Rattle.ven_base.specs.declared.mapping.Mapping.TheVariants as maps
 use Rattle.ven_base.specs.Elem.{IsElement}
-use Rattle.ven_base.specs.Extent.{Extent}
 use Rattle.ven_base.specs.Mapping.{result_shape, fill_of, FitsShape}
 use Rattle.ven_base.proofs.Wrapped.{zero_in}
 use Rattle.array_syntax.specs.Limits.{IsWritable}
-use Rattle.array_syntax.specs.Tree.{Tree, Name, Literal, One, Two, Cast, Select, Shift, Rotate, Section, Stretch, Transpose, RowFold, Fold}
+use Rattle.array_syntax.specs.Tree.{Tree, Literal, One, Cast, Shift, Section, Stretch, RowFold, Fold}
 use Rattle.shape_check.specs.declared.typed.ArrayType.{ArrayType}
 use Rattle.shape_check.specs.declared.fault.CheckFault.{CheckFault}
 use Rattle.shape_check.specs.declared.fault.CheckFault.TheVariants.{Twice, Unknown, TypeMismatch, ShapeMismatch, LiteralAlone, LiteralRange, BadShape, BadSection, BadStretch, NoOutput, TooMuchWork, Memory}
 use Rattle.shape_check.specs.Node as nodes
 use Rattle.shape_check.specs.Node.{Node, elem_of, shape_of, is_literal}
-use Rattle.shape_check.specs.Rules.{type_of, IsTyped, Has, IsMapOf}
-use Rattle.shape_check.specs.Scope.{Scope, scope_names, scope_types}
+use Rattle.shape_check.specs.Rules.{type_of, IsTyped, Has}
+use Rattle.shape_check.specs.Scope.{Scope, scope_types}
 use Rattle.shape_check.specs.Typing.{IsMap, Spells, IsTyping, section_of, stretch_of}
-use Rattle.shape_check.specs.Faults.{parts_of, literal_place, lone_literal, first_of_both, HasType, DifferInType, DifferInShape, HasTwo, IsOut, IsOutBeside, IsFillOut, IsFirstOut, Misfits, IsBadSection, IsBadStretch, IsUnknown}
-use Rattle.shape_check.specs.Judge.{Operand, Array, Number, Verdict, Both, chain, array, lone, of_array, has_elem, has_shape, same_elem, same_shape, is_in, fits, with_type, with_types, agree, type_beside, find, named, on_name, one_of, two_of, on_two, cast_of, select_of, on_select, map_of, on_shift, on_section, on_stretch, row_fold_of, fold_of, judge}
+use Rattle.shape_check.specs.Faults.{parts_of, literal_place, lone_literal, HasType, DifferInType, DifferInShape, IsOut, IsUnknown}
+use Rattle.shape_check.specs.Judge.{Operand, Array, Number, Verdict, Both, chain, array, of_array, has_elem, has_shape, same_elem, same_shape, is_in, fits, with_type, with_types, agree, one_of, cast_of, map_of, on_shift, on_section, on_stretch, row_fold_of, fold_of, judge}
 use Rattle.shape_check.proofs.Arms.{move_of}
 use Rattle.shape_check.proofs.Decisions.{is_in-IsElement, fits-FitsShape, same_elem-same, same_elem-self, same_shape-same, same_shape-self}
-use Rattle.shape_check.proofs.Lookups.{find-known, find-absent, get_map}
-use Rattle.shape_check.proofs.Cleanness.{IsClean, FirstAt, Keeps, FirstAt-kept, IsFirstPart, first_left, first_right, first_here, first_last}
-use Rattle.shape_check.proofs.Unique.{IsDistinct, array_place, HasType-is, literal_clean, clean_parts, none_of_both}
+use Rattle.shape_check.proofs.Cleanness.{IsClean, Keeps, FirstAt-kept, IsFirstPart, first_left, first_last}
+use Rattle.shape_check.proofs.Unique.{IsDistinct, array_place, HasType-is, literal_clean, clean_parts}
 
 pub record IsArrayTyping (scope : Scope) (tree : Tree) (e : Node) : Type 0 where
   pub typing : IsTyping scope tree e

@@ -1,7 +1,7 @@
 -- What a checked program keeps of the limits of its program.
-use Rattle.std.proofs.Common.{◌≡◌, ◌≢◌, ℕ, ◌+◌, ◌<◌, ◌≤◌, max, List, [], ◌∷◌, ◌++◌, length, get_or, map, refl, sym, ap, ◌∙◌, subst, arith, Bool, true, false, Some}
+use Rattle.std.proofs.Common.{◌≡◌, ◌≢◌, ℕ, ◌<◌, ◌≤◌, List, [], ◌∷◌, ◌++◌, length, get_or, refl, sym, ap, ◌∙◌, subst, arith, Some}
 use Rattle.std.specs.Prelude.{All, slice_get}
-use Rattle.std.specs.List.{AllPairs, list_any, sum_by}
+use Rattle.std.specs.List.{AllPairs, sum_by}
 use Rattle.std.proofs.lemmas.List.{map-append}
 use Rattle.std.proofs.lemmas.List.Elements.{All-nil, All-cons, All-head, All-tail}
 use Rattle.std.proofs.lemmas.List.Sums.{sum_by-cons}
@@ -14,11 +14,11 @@ use Rattle.array_syntax.specs.declared.program.Stmt.TheVariants as stmts
 use Rattle.array_syntax.specs.Tree.{Tree, Name, Literal, One, Two, Cast, Select, Shift, Rotate, Section, Stretch, Transpose, RowFold, Fold, tree_of}
 use Rattle.shape_check.specs.declared.typed.ArrayType.{ArrayType}
 use Rattle.shape_check.specs.Node.{Node}
-use Rattle.shape_check.specs.Statement.{Statement, Input, Let, Output, name_of, names_of, in_value}
-use Rattle.shape_check.specs.Rules.{declared_type, AreTyped}
+use Rattle.shape_check.specs.Statement.{Statement, name_of, names_of, in_value}
+use Rattle.shape_check.specs.Rules.{AreTyped}
 use Rattle.shape_check.specs.Scope.{Scope, entry_of, scope_of, scope_names, scope_types}
-use Rattle.shape_check.specs.Typing.{Spells, SpellsStatement, IsStatementTyping, AreTypings}
-use Rattle.shape_check.specs.Checked.{nodes_of, height_of, IsWithinLimits}
+use Rattle.shape_check.specs.Typing.{Spells, SpellsStatement, AreTypings}
+use Rattle.shape_check.specs.Checked.{nodes_of, height_of}
 use Rattle.shape_check.specs.Ending.{KeepRules}
 use Rattle.shape_check.proofs.Unique.{IsDistinct}
 use Rattle.shape_check.proofs.Programs.{typings_distinct, typings_counted, IsDistinct-nil}

@@ -1,4 +1,3 @@
-pub mod Values
 pub mod Typing
 pub mod Meanings
 pub mod Occurrences
@@ -14,3 +13,4 @@ pub mod Lookups
 pub mod Decisions
 pub mod Kept
 pub mod Loops
+pub mod OneFault

@@ -1,7 +1,7 @@
 -- What a look-up of a name finds.
-use Rattle.std.proofs.Common.{◌≡◌, ℕ, zero, suc, ◌<◌, List, [], ◌∷◌, length, get_or, refl, sym, ap, ◌∙◌, subst, arith, Option, None, Some, Bool, true, false, Contains, map, is_some}
-use Rattle.std.specs.Prelude.{position, slice_get, IsSome, ◌⊎◌}
-use Rattle.std.specs.Map.{lookup, keys_of}
+use Rattle.std.proofs.Common.{◌≡◌, ℕ, zero, suc, List, [], ◌∷◌, get_or, refl, sym, ap, ◌∙◌, subst, arith, Option, None, Some, true, false, Contains, map, is_some}
+use Rattle.std.specs.Prelude.{position, slice_get}
+use Rattle.std.specs.Map.{lookup}
 use Rattle.std.specs.Str.{bytes_eq}
 use Rattle.std.specs.Cmp.Lexicographic.{nat_list_eq_equiv}
 use Rattle.std.proofs.Common.{inl, inr}
@@ -12,7 +12,7 @@ use Rattle.std.proofs.lemmas.Option.{slice_get_cases, get_or_from_slice_get}
 use Rattle.indexmap.proofs.MapLemmas.{some_index}
 use Rattle.ven_base.proofs.Words.{same_bytes}
 use Rattle.shape_check.specs.declared.typed.ArrayType.{ArrayType}
-use Rattle.shape_check.specs.Scope.{Scope, scope_names, scope_types}
+use Rattle.shape_check.specs.Scope.{Scope, scope_names}
 use Rattle.shape_check.specs.Judge.{find, find_at}
 
 pub get_map : {X Y : Type 0} (f : X → Y) (xs : List X) (k : ℕ) (x : X) → slice_get xs k ≡ Some x → slice_get (map f xs) k ≡ Some (f x)

@@ -1,8 +1,8 @@
 -- What the loops over statements keep, and what the checker answers in the end.
-use Rattle.std.proofs.Common.{◌≡◌, ℕ, ◌+◌, ◌<◌, ◌≤◌, List, [], ◌∷◌, ◌++◌, length, drop, get_or, map, refl, sym, ap, ◌∙◌, subst, arith, add-one, Bool, true, false, None, Some, Ok, Err, Option}
+use Rattle.std.proofs.Common.{◌≡◌, ℕ, ◌+◌, ◌<◌, List, [], ◌∷◌, ◌++◌, length, drop, get_or, refl, sym, ap, ◌∙◌, subst, None, Some, Ok, Err, Option}
 use Rattle.std.specs.Prelude.{Result, All, IfOk, IfErr, IsErrAnd, ◌||◌}
 use Rattle.std.specs.List.{list_any}
-use Rattle.std.proofs.lemmas.List.{drop_more, map-append}
+use Rattle.std.proofs.lemmas.List.{drop_more}
 use Rattle.ven_base.specs.declared.elem.Elem.{Elem}
 use Rattle.ven_base.specs.Extent.{Extent}
 use Rattle.array_syntax.specs.Limits.{KeepsStatement}
@@ -12,12 +12,12 @@ use Rattle.shape_check.specs.declared.checked.StmtKind.{StmtKind}
 use Rattle.shape_check.specs.declared.checked.StmtKind.TheVariants as kinds
 use Rattle.shape_check.specs.declared.checked.CheckedStmt.{CheckedStmt}
 use Rattle.shape_check.specs.declared.fault.CheckFault.{CheckFault}
-use Rattle.shape_check.specs.declared.fault.CheckFault.TheVariants.{Twice, Unknown, TypeMismatch, ShapeMismatch, LiteralAlone, LiteralRange, BadShape, BadSection, BadStretch, NoOutput, TooMuchWork, Memory}
+use Rattle.shape_check.specs.declared.fault.CheckFault.TheVariants.{Memory}
 use Rattle.shape_check.specs.Statement.{Statement, name_of, is_output}
 use Rattle.shape_check.specs.Scope.{Scope, scope_of}
 use Rattle.shape_check.specs.Checked.{statement_with, statement_of, program_of}
 use Rattle.shape_check.specs.Typing.{IsProgramTyping}
-use Rattle.shape_check.specs.Faults.{IsAnswered, IsFirstFault}
+use Rattle.shape_check.specs.Faults.{IsAnswered}
 use Rattle.shape_check.specs.Judge.{chain, judge_statement, judge_all, judge_end, judge_program, Refuses, Answers}
 use Rattle.shape_check.proofs.Programs.{ProgramJudged, program_judged}
 

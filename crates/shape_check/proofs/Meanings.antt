@@ -1,24 +1,21 @@
 -- A checked program has one meaning.
-use Rattle.std.proofs.Common.{◌≡◌, ℕ, zero, suc, ◌+◌, ◌<◌, ◌≤◌, List, [], ◌∷◌, ◌++◌, length, get_or, refl, sym, ap, ◌∙◌, subst, arith, append_assoc, length-append, None, Some, Option}
-use Rattle.std.specs.Prelude.{◌↔◌, ◌⊎◌, slice_get, unwrap_or, false}
+use Rattle.std.proofs.Common.{◌≡◌, ℕ, zero, suc, ◌<◌, List, [], ◌∷◌, ◌++◌, length, refl, sym, ap, ◌∙◌, subst, arith, append_assoc, length-append, Some}
+use Rattle.std.specs.Prelude.{◌⊎◌, slice_get, unwrap_or, false}
 use Rattle.std.proofs.Common.{inl, inr}
 use Rattle.std.specs.List.{AllZip}
 use Rattle.std.proofs.lemmas.List.{append-nil, get_or_append_left, get_or_at}
 use Rattle.std.proofs.lemmas.Option.{slice_get_within}
-use Rattle.ven_base.specs.declared.elem.Elem.{Elem}
-use Rattle.ven_base.specs.declared.ops.Fold as ops
-use Rattle.ven_base.specs.Folding.{IsFolded}
-use Rattle.ven_base.specs.Extent.{Extent, IsExtent, IsIndex}
-use Rattle.ven_base.specs.Grid.{Grid, IsGrid, value_at}
-use Rattle.ven_base.specs.Pairs.{Pairs, array_named}
+use Rattle.ven_base.specs.Extent.{Extent, IsIndex}
+use Rattle.ven_base.specs.Grid.{Grid, IsGrid}
+use Rattle.ven_base.specs.Pairs.{Pairs}
 use Rattle.ven_base.proofs.Grids.{same_grids}
-use Rattle.shape_check.specs.Node.{Node, RowFold, Fold, elem_of, shape_of, is_literal}
+use Rattle.shape_check.specs.Node.{Node, elem_of, shape_of, is_literal}
 use Rattle.shape_check.specs.Statement.{Statement, Input, Let, Output}
 use Rattle.shape_check.specs.declared.typed.ArrayType.{ArrayType}
-use Rattle.shape_check.specs.Rules.{type_of, declared_type, IsTyped, IsArray, IsTypedStatement, AreTyped}
-use Rattle.shape_check.specs.Meaning.{row_values, values_with, grid_with, no_grid, expr_at, array_of, input_array, statement_array, arrays_from, arrays_of, HasInput, FitsStatement, FitInputs, IsArrayOf, StandsFor, AreMeant}
-use Rattle.shape_check.specs.Laws.{IsArrayIn, Stands, HasOneMeaning, HasValuesInType, ReducesRows, ReducesArrays}
-use Rattle.shape_check.proofs.Values.{row_values-length, grid_with-at, IsGrid-grid_with}
+use Rattle.shape_check.specs.Rules.{declared_type, IsTyped, IsTypedStatement, AreTyped}
+use Rattle.shape_check.specs.Meaning.{row_values, values_with, no_grid, expr_at, array_of, input_array, statement_array, arrays_from, arrays_of, FitsStatement, FitInputs, IsArrayOf, StandsFor, AreMeant}
+use Rattle.shape_check.specs.Laws.{IsArrayIn, Stands, HasOneMeaning, ReducesRows, ReducesArrays}
+use Rattle.ven_base.proofs.Made.{row_values-length, grid_with-at, IsGrid-grid_with}
 use Rattle.shape_check.proofs.Typing.{shape_of-IsExtent, Stands-AreShapes, expr_at-IsElement, expr_at-append, folded-IsFolded, some_values}
 
 -- ---- the array of an expression

@@ -1,7 +1,7 @@
 -- How often names occur, and where they may.
-use Rattle.std.proofs.Common.{◌≡◌, ℕ, zero, suc, ◌+◌, ◌<◌, List, [], ◌∷◌, ◌++◌, length, take, map, refl, sym, ap, ◌∙◌, subst, arith, append_assoc, length-append, Some, cond}
+use Rattle.std.proofs.Common.{◌≡◌, ℕ, zero, suc, ◌<◌, List, [], ◌∷◌, ◌++◌, length, take, map, sym, ap, ◌∙◌, subst, arith, append_assoc, Some, cond}
 use Rattle.std.specs.Prelude.{All, slice_get, ◌==◌, ◌≤◌}
-use Rattle.std.specs.List.{flat_map, count_by}
+use Rattle.std.specs.List.{count_by}
 use Rattle.std.proofs.lemmas.Grind.{flat_map-append}
 use Rattle.std.proofs.lemmas.List.{append-nil, length-map, length-take}
 use Rattle.std.proofs.lemmas.List.Elements.{All-nil, All-cons, All-append, All-weaker}
@@ -11,7 +11,7 @@ use Rattle.shape_check.specs.Node.{Node, Name, Literal, One, Two, Cast, Select, 
 use Rattle.shape_check.specs.Statement.{Statement, Input, Let, Output, in_value}
 use Rattle.shape_check.specs.declared.typed.ArrayType.{ArrayType}
 use Rattle.shape_check.specs.Rules.{declared_type, IsTyped, IsTypedStatement, AreTyped}
-use Rattle.shape_check.specs.Occurrences.{names_in, all_names, uses_of}
+use Rattle.shape_check.specs.Occurrences.{names_in, all_names}
 use Rattle.shape_check.specs.Laws.{CountsUses, NamesAreEarlier}
 
 pub uses_of-append : CountsUses

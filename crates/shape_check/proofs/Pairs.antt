@@ -1,6 +1,6 @@
 -- The verdict on nodes with several operands, and on every expression.
-use Rattle.std.proofs.Common.{◌≡◌, ◌≢◌, ℕ, ◌+◌, ◌<◌, ◌≤◌, List, [], ◌∷◌, ◌++◌, refl, sym, ap, ◌∙◌, subst, arith, Option, None, Some, Bool, true, false, inl, inr, Ok, Err, Contains}
-use Rattle.std.specs.Prelude.{ℤ, Result, All, slice_get, ◌⊎◌, ◌&&◌}
+use Rattle.std.proofs.Common.{◌≡◌, ℕ, List, [], ◌∷◌, ◌++◌, refl, sym, ap, ◌∙◌, arith, Option, None, Some, Bool, true, false, inl, inr, Ok, Err}
+use Rattle.std.specs.Prelude.{ℤ, Result, ◌⊎◌, ◌&&◌}
 use Rattle.ven_base.specs.declared.elem.Elem.{Elem}
 use Rattle.ven_base.specs.declared.ops.Op2.{Op2}
 use Rattle.ven_base.specs.declared.mapping.Mapping.TheVariants as maps
@@ -10,18 +10,17 @@ use Rattle.array_syntax.specs.Tree.{Tree, Name, Literal, One, Two, Cast, Select,
 use Rattle.shape_check.specs.declared.typed.ArrayType.{ArrayType}
 use Rattle.shape_check.specs.declared.fault.CheckFault.{CheckFault}
 use Rattle.shape_check.specs.declared.fault.CheckFault.TheVariants.{Twice, Unknown, TypeMismatch, ShapeMismatch, LiteralAlone, LiteralRange, BadShape, BadSection, BadStretch, NoOutput, TooMuchWork, Memory}
-use Rattle.shape_check.specs.Node as nodes
 use Rattle.shape_check.specs.Node.{Node, elem_of, shape_of, is_literal}
-use Rattle.shape_check.specs.Rules.{type_of, IsTyped, Has}
-use Rattle.shape_check.specs.Scope.{Scope, scope_names, scope_types}
-use Rattle.shape_check.specs.Typing.{IsTyping, section_of, stretch_of}
+use Rattle.shape_check.specs.Rules.{type_of}
+use Rattle.shape_check.specs.Scope.{Scope}
+use Rattle.shape_check.specs.Typing.{section_of, stretch_of}
 use Rattle.shape_check.specs.Faults.{parts_of, literal_place, lone_literal, first_of_both, DifferInType, DifferInShape, IsOut, IsOutBeside, IsFirstOut}
-use Rattle.shape_check.specs.Judge.{Operand, Array, Number, Verdict, Both, chain, array, lone, has_elem, has_shape, agree, type_beside, find, named, on_name, two_of, on_two, select_of, on_select, map_of, on_shift, on_section, on_stretch, judge}
+use Rattle.shape_check.specs.Judge.{Operand, Array, Number, Verdict, Both, chain, array, has_elem, has_shape, agree, find, named, two_of, on_two, select_of, on_select, map_of, on_shift, on_section, on_stretch, judge}
 use Rattle.shape_check.proofs.Arms.{move_of}
 use Rattle.shape_check.proofs.Lookups.{find-known, find-absent, get_map, find_none}
-use Rattle.shape_check.proofs.Cleanness.{IsClean, FirstAt, Keeps, FirstAt-kept, IsFirstPart, first_left, first_right, first_here, first_last}
+use Rattle.shape_check.proofs.Cleanness.{FirstAt, FirstAt-kept, IsFirstPart, first_left, first_right, first_here, first_last}
 use Rattle.shape_check.proofs.Unique.{IsDistinct, array_place, none_of_both, none_out, HasType-is}
-use Rattle.shape_check.proofs.Judged.{IsArrayTyping, Judged, clean_operand, has_type_of, keeps_one, unary, map_typing, one_judged, cast_judged, row_fold_judged, fold_judged, shift_judged, section_judged, stretch_judged, KeptOf, IsOperandOf, IsSameKind, IsSameShape, IsBoth, IsOperand, IsAgreed, agree_judged, no_type_differs, no_shape_differs, type_differs, shape_differs, own_elem, own_shape, literal_untyped}
+use Rattle.shape_check.proofs.Judged.{IsArrayTyping, Judged, clean_operand, has_type_of, keeps_one, unary, map_typing, one_judged, cast_judged, row_fold_judged, fold_judged, shift_judged, section_judged, stretch_judged, KeptOf, IsSameKind, IsSameShape, IsOperand, IsAgreed, agree_judged, no_type_differs, no_shape_differs, type_differs, shape_differs, own_elem, own_shape}
 
 -- ---- two operands
 

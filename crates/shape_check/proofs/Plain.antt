@@ -2,10 +2,9 @@
 use Rattle.std.proofs.Common.{◌≡◌, refl}
 use Rattle.ven_base.specs.declared.elem.Elem.{Elem}
 use Rattle.ven_base.specs.Extent.{Extent}
-use Rattle.shape_check.specs.declared.typed.Typed.{Typed}
 use Rattle.shape_check.specs.declared.typed.TypedKind.{TypedKind, Name, Literal, One', Two', Cast', Select', Map', RowFold', Fold'}
 use Rattle.shape_check.specs.Node.{elem_of, shape_of}
-use Rattle.shape_check.specs.Typed.{node_with, node_of}
+use Rattle.shape_check.specs.Typed.{node_with}
 
 pub elem_with : (kind : TypedKind) (elem : Elem) (shape : Extent) → elem_of (node_with kind elem shape) ≡ elem
 elem_with (Name k) elem shape = refl

@@ -1,24 +1,23 @@
 -- The verdict on a program is its checked program, or its first fault.
-use Rattle.std.proofs.Common.{◌≡◌, ℕ, zero, suc, ◌+◌, ◌<◌, ◌≤◌, List, [], ◌∷◌, ◌++◌, length, take, get_or, refl, sym, ap, ◌∙◌, subst, arith, append_assoc, length-append, Option, None, Some, Bool, true, false, inl, inr, Ok, Err, Contains}
+use Rattle.std.proofs.Common.{◌≡◌, ℕ, zero, suc, ◌+◌, ◌<◌, ◌≤◌, List, [], ◌∷◌, ◌++◌, length, take, refl, sym, ap, ◌∙◌, subst, arith, append_assoc, length-append, None, Some, Bool, true, false, inl, inr, Ok, Err, Contains}
 use Rattle.std.specs.Prelude.{Result, All, slice_get, ◌⊎◌, if◌then◌else◌, map, nat_le}
 use Rattle.std.specs.List.{list_any}
 use Rattle.std.proofs.lemmas.Bool.{cases_lt, leb-true}
 use Rattle.std.proofs.lemmas.Bool.Decides.{leb_tells}
-use Rattle.std.proofs.lemmas.List.{map-append, append-nil, take_at, take_all, get_or_append_left}
-use Rattle.std.proofs.lemmas.List.Elements.{All-nil, All-cons, All-append, All-map, All-weaker, All-head, All-tail, Contains-get_or}
+use Rattle.std.proofs.lemmas.List.{map-append, append-nil, take_at, take_all}
+use Rattle.std.proofs.lemmas.List.Elements.{All-nil, All-cons, All-append, All-map, All-weaker, All-head, All-tail}
 use Rattle.std.proofs.lemmas.Option.{slice_get_within, get_or_from_slice_get}
 use Rattle.array_syntax.specs.Limits.{KeepsStatement}
 use Rattle.array_syntax.specs.declared.program.Stmt.{Stmt}
 use Rattle.shape_check.specs.declared.typed.ArrayType.{ArrayType}
 use Rattle.shape_check.specs.declared.fault.CheckFault.{CheckFault}
-use Rattle.shape_check.specs.declared.fault.CheckFault.TheVariants.{Twice, Unknown, TypeMismatch, ShapeMismatch, LiteralAlone, LiteralRange, BadShape, BadSection, BadStretch, NoOutput, TooMuchWork, Memory}
+use Rattle.shape_check.specs.declared.fault.CheckFault.TheVariants.{NoOutput, TooMuchWork}
 use Rattle.shape_check.specs.Statement.{Statement, is_output}
-use Rattle.shape_check.specs.Scope.{Scope, entry_of, scope_of, scope_names, scope_types}
+use Rattle.shape_check.specs.Scope.{Scope, entry_of, scope_of, scope_names}
 use Rattle.shape_check.specs.Checked.{work_of, work_limit}
 use Rattle.shape_check.specs.Typing.{IsStatementTyping, AreTypings, IsProgramTyping}
 use Rattle.shape_check.specs.Faults.{Site, OutputSite, WorkSite, Spot, spot_at, sites_of, spots_from, BreaksOutput, BreaksWork, Breaks, rank_of, Occurs, IsFirstFault}
 use Rattle.shape_check.specs.Judge.{chain, judge_statement, judge_all, judge_end, judge_program}
-use Rattle.shape_check.proofs.Lookups.{get_map}
 use Rattle.shape_check.proofs.Unique.{IsDistinct}
 use Rattle.shape_check.proofs.Statements.{IsCleanSite, IsFirstSite, sites_clean, same_statement, StatementJudged, statement_judged}
 
@@ -82,7 +81,7 @@ typings_distinct scope (s ∷ stmts) [] d h = absurd h
 typings_distinct scope (s ∷ stmts) (x ∷ xs) d h =
     subst IsDistinct (append_assoc scope (entry_of x ∷ []) (scope_of xs)) (typings_distinct (scope ++ entry_of x ∷ []) stmts xs (IsDistinct-push scope (entry_of x) d h.0.is_new) h.1)
 
-typings_unique : (scope : Scope) (stmts : List Stmt) (xs ys : List Statement) → IsDistinct scope → AreTypings scope stmts xs → AreTypings scope stmts ys → xs ≡ ys
+pub typings_unique : (scope : Scope) (stmts : List Stmt) (xs ys : List Statement) → IsDistinct scope → AreTypings scope stmts xs → AreTypings scope stmts ys → xs ≡ ys
 typings_unique scope [] [] [] d h l = refl
 typings_unique scope [] [] (y ∷ ys) d h l = absurd l
 typings_unique scope [] (x ∷ xs) ys d h l = absurd h

@@ -1,31 +1,29 @@
 -- The verdict on a statement is its checked statement, or its first fault.
-use Rattle.std.proofs.Common.{◌≡◌, ℕ, zero, suc, ◌+◌, ◌<◌, ◌≤◌, List, [], ◌∷◌, ◌++◌, length, get_or, refl, sym, ap, ◌∙◌, subst, arith, append_assoc, length-append, Option, None, Some, Bool, true, false, inl, inr, Ok, Err, Contains}
-use Rattle.std.specs.Prelude.{ℤ, Result, All, slice_get, ◌⊎◌, if◌then◌else◌, map, is_some}
+use Rattle.std.proofs.Common.{◌≡◌, ℕ, ◌≤◌, List, [], ◌∷◌, ◌++◌, refl, sym, ap, ◌∙◌, subst, arith, append_assoc, None, Some, Bool, true, false, inl, Ok, Err, Contains}
+use Rattle.std.specs.Prelude.{ℤ, Result, All, if◌then◌else◌, map, is_some}
 use Rattle.std.proofs.lemmas.List.{map-append}
-use Rattle.std.proofs.lemmas.List.Elements.{All-nil, All-cons, All-append, All-map, All-weaker, Contains-get_or}
-use Rattle.std.proofs.lemmas.Option.{slice_get_within, get_or_from_slice_get}
+use Rattle.std.proofs.lemmas.List.Elements.{All-nil, All-cons, All-append, All-map, All-weaker}
 use Rattle.ven_base.specs.declared.elem.Elem.{Elem}
-use Rattle.ven_base.specs.Extent.{Extent, IsExtent}
-use Rattle.array_syntax.specs.Limits.{IsWritable, KeepsStatement}
+use Rattle.ven_base.specs.Extent.{IsExtent}
+use Rattle.array_syntax.specs.Limits.{KeepsStatement}
 use Rattle.array_syntax.specs.declared.program.Expr.{Expr}
 use Rattle.array_syntax.specs.declared.program.Stmt.{Stmt}
 use Rattle.array_syntax.specs.declared.program.Stmt.TheVariants as stmts
 use Rattle.array_syntax.specs.Tree.{Tree, tree_of}
 use Rattle.shape_check.specs.declared.typed.ArrayType.{ArrayType}
 use Rattle.shape_check.specs.declared.fault.CheckFault.{CheckFault}
-use Rattle.shape_check.specs.declared.fault.CheckFault.TheVariants.{Twice, Unknown, TypeMismatch, ShapeMismatch, LiteralAlone, LiteralRange, BadShape, BadSection, BadStretch, NoOutput, TooMuchWork, Memory}
+use Rattle.shape_check.specs.declared.fault.CheckFault.TheVariants.{Twice, LiteralAlone, BadShape}
 use Rattle.shape_check.specs.Node.{Node, is_literal}
 use Rattle.shape_check.specs.Statement.{Statement, Input, Let, Output}
-use Rattle.shape_check.specs.Rules.{IsTyped, IsArray}
-use Rattle.shape_check.specs.Scope.{Scope, entry_of, scope_of, scope_names, scope_types}
+use Rattle.shape_check.specs.Scope.{Scope, scope_of, scope_names}
 use Rattle.shape_check.specs.Typing.{IsTyping, extent_of, IsStatementTyping}
-use Rattle.shape_check.specs.Faults.{parts_of, literal_place, Site, NameSite, ShapeSite, NodeSite, WholeSite, sites_in, sites_of, BreaksName, BreaksShape, BreaksWhole, BreaksAt, Breaks, rank_of}
-use Rattle.shape_check.specs.Judge.{Operand, Array, Number, Verdict, chain, lone, is_extent, find, judge, judge_input, judge_value, judge_new, judge_statement}
+use Rattle.shape_check.specs.Faults.{parts_of, literal_place, Site, NameSite, ShapeSite, NodeSite, WholeSite, sites_in, sites_of, BreaksName, BreaksShape, BreaksWhole, Breaks, rank_of}
+use Rattle.shape_check.specs.Judge.{Array, Number, Verdict, chain, lone, is_extent, find, judge, judge_input, judge_value, judge_statement}
 use Rattle.shape_check.proofs.Decisions.{is_extent-IsExtent}
 use Rattle.shape_check.proofs.Lookups.{find-contains, find-absent}
 use Rattle.shape_check.proofs.Cleanness.{IsClean, IsFirstPart}
 use Rattle.shape_check.proofs.Unique.{IsDistinct, same_typing, array_place, clean_parts}
-use Rattle.shape_check.proofs.Judged.{Judged, IsArrayTyping, clean_operand}
+use Rattle.shape_check.proofs.Judged.{Judged, clean_operand}
 use Rattle.shape_check.proofs.Pairs.{judged}
 
 -- ---- sites

@@ -1,33 +1,30 @@
 -- Facts of expressions in which each node keeps its rule.
-use Rattle.std.proofs.Common.{◌≡◌, ℕ, zero, suc, ◌+◌, ◌*◌, ◌<◌, ◌≤◌, List, [], ◌∷◌, ◌++◌, length, get_or, refl, sym, ap, ◌∙◌, subst, arith, length-append, None, Some, Bool, true, false, Option, inl, inr}
-use Rattle.std.specs.Prelude.{ℤ, pos, negsuc, map, All, IfSome, slice_get, ◌&&◌, ◌⊎◌}
+use Rattle.std.proofs.Common.{◌≡◌, ℕ, ◌+◌, ◌*◌, ◌<◌, ◌≤◌, List, [], ◌∷◌, ◌++◌, length, refl, sym, ap, subst, arith, None, Some, Bool, true, false, Option, inl, inr}
+use Rattle.std.specs.Prelude.{ℤ, pos, All, IfSome, ◌&&◌, ◌⊎◌}
 use Rattle.std.proofs.lemmas.Nat.{mul-add-lt}
 use Rattle.std.specs.Option.{option_map_or}
 use Rattle.std.proofs.lemmas.List.{get_or_append_left}
-use Rattle.std.proofs.lemmas.Option.{slice_get_within, get_or_from_slice_get}
+use Rattle.std.proofs.lemmas.Option.{slice_get_within}
 use Rattle.ven_base.specs.declared.elem.Elem.{Elem}
 use Rattle.ven_base.specs.declared.ops.Op1.{Op1}
-use Rattle.ven_base.specs.declared.ops.Op2.{Op2}
-use Rattle.ven_base.specs.declared.ops.Op2.TheVariants.{SatAdd, SatSub}
-use Rattle.ven_base.proofs.Operations.{IsElement-nearest}
+use Rattle.ven_base.proofs.Operations.{IsElement-applied2, IsElement-chosen}
 use Rattle.ven_base.specs.Wrap.{wrapped}
 use Rattle.ven_base.specs.declared.ops.Fold as ops
-use Rattle.ven_base.specs.declared.mapping.Mapping.{Mapping}
 use Rattle.ven_base.specs.Elem.{IsElement}
-use Rattle.ven_base.specs.Extent.{Extent, IsExtent, IsIndex, elements_of}
+use Rattle.ven_base.specs.Extent.{Extent, IsExtent, IsIndex}
 use Rattle.ven_base.specs.Folding.{folded, IsFolded}
 use Rattle.ven_base.specs.Grid.{Grid, IsGrid, value_at}
-use Rattle.ven_base.specs.Operation.{exact1, exact2, applied1, applied2}
-use Rattle.ven_base.specs.Mapping.{source_of, result_shape, fill_of, FitsShape}
+use Rattle.ven_base.specs.Operation.{exact1, applied1, applied2}
+use Rattle.ven_base.specs.Mapping.{source_of, result_shape, fill_of}
 use Rattle.ven_base.proofs.Wrapped.{IsElement-wrapped}
 use Rattle.ven_base.proofs.Reductions.{IsFolded-folded, IsElement-IsFolded}
 use Rattle.ven_base.proofs.Sources.{source_of-inside, result_shape-IsExtent, factor_within}
 use Rattle.shape_check.specs.Node.{Node, Name, Literal, One, Two, Cast, Select, Map, RowFold, Fold, elem_of, shape_of, is_literal}
 use Rattle.shape_check.specs.declared.typed.ArrayType.{ArrayType}
-use Rattle.shape_check.specs.Rules.{type_of, IsTyped}
+use Rattle.shape_check.specs.Rules.{IsTyped}
 use Rattle.shape_check.specs.Meaning.{row_values, values_with, no_grid, array_at, chosen, expr_at}
 use Rattle.shape_check.specs.Laws.{AreShapes, IsArrayIn, Stands}
-use Rattle.shape_check.proofs.Values.{row_values-length, row_values-same, row_values-all, values_with-length, values_with-same, values_with-all}
+use Rattle.ven_base.proofs.Made.{row_values-length, row_values-same, row_values-all, values_with-length, values_with-same, values_with-all}
 
 -- ---- shapes
 
@@ -84,16 +81,6 @@ name-IsElement type grid i j h index =
 
 IsElement-applied1 : (op : Op1) (elem : Elem) (x : ℤ) → IsElement elem (applied1 op elem x)
 IsElement-applied1 op elem x = IsElement-wrapped elem (exact1 op x)
-
-IsElement-applied2 : (op : Op2) (elem : Elem) (x y : ℤ) → IsElement elem (applied2 op elem x y)
-IsElement-applied2 SatAdd elem x y = IsElement-nearest elem (exact2 SatAdd elem x y)
-IsElement-applied2 SatSub elem x y = IsElement-nearest elem (exact2 SatSub elem x y)
-IsElement-applied2 op elem x y = IsElement-wrapped elem (exact2 op elem x y)
-
-IsElement-chosen : (elem : Elem) (c x y : ℤ) → IsElement elem x → IsElement elem y → IsElement elem (chosen c x y)
-IsElement-chosen elem (pos zero) x y h l = l
-IsElement-chosen elem (pos (suc c)) x y h l = h
-IsElement-chosen elem (negsuc c) x y h l = h
 
 pub folded-IsFolded : (fold : ops.Fold) (elem : Elem) (xs : List ℤ) → 0 < length xs → IsFolded fold elem xs (folded fold elem xs)
 folded-IsFolded fold elem [] h = absurd (omega arith)

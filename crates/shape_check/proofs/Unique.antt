@@ -1,10 +1,9 @@
 -- An expression has one checked tree, and a checked tree breaks no rule.
-use Rattle.std.proofs.Common.{◌≡◌, ℕ, ◌+◌, ◌<◌, ◌≤◌, List, [], ◌∷◌, ◌++◌, length, refl, sym, ap, ◌∙◌, subst, arith, Option, None, Some, Bool, true, false, inl, inr, Contains}
-use Rattle.std.specs.Prelude.{ℤ, All, slice_get, ◌⊎◌, ◌&&◌}
+use Rattle.std.proofs.Common.{◌≡◌, ℕ, ◌<◌, List, [], ◌∷◌, ◌++◌, refl, sym, ap, ◌∙◌, subst, Option, None, Some, true, false, inl, inr, Contains}
+use Rattle.std.specs.Prelude.{ℤ, All, slice_get, ◌⊎◌}
 use Rattle.std.proofs.lemmas.List.Elements.{All-nil, All-cons, All-append}
 use Rattle.std.proofs.lemmas.Option.{slice_get_within, get_or_from_slice_get}
 use Rattle.ven_base.specs.declared.elem.Elem.{Elem}
-use Rattle.ven_base.specs.declared.ops.Op1.{Op1}
 use Rattle.ven_base.specs.declared.ops.Op2.{Op2}
 use Rattle.ven_base.specs.declared.mapping.Mapping.{Mapping}
 use Rattle.ven_base.specs.declared.mapping.Mapping.TheVariants as maps
@@ -15,7 +14,7 @@ use Rattle.array_syntax.specs.Tree.{Tree, Name, Literal, One, Two, Cast, Select,
 use Rattle.shape_check.specs.declared.typed.ArrayType.{ArrayType}
 use Rattle.shape_check.specs.Node as nodes
 use Rattle.shape_check.specs.Node.{Node, elem_of, shape_of, is_literal}
-use Rattle.shape_check.specs.Rules.{type_of, IsTyped, Has, HaveBoth, HaveAll, IsMapOf}
+use Rattle.shape_check.specs.Rules.{type_of, IsTyped, Has, HaveBoth, HaveAll}
 use Rattle.shape_check.specs.Scope.{Scope, scope_names, scope_types}
 use Rattle.shape_check.specs.Typing.{IsMap, Spells, IsTyping, section_of, stretch_of}
 use Rattle.shape_check.specs.Faults.{parts_of, literal_place, lone_literal, first_of_both, HasType, DifferInType, DifferInShape, HasTwo, IsOut, IsOutBeside, IsFillOut, IsFirstOut, Misfits, IsBadSection, IsBadStretch, IsUnknown}

@@ -1,5 +1,5 @@
 -- What holds of every checked program.
-use Rattle.std.specs.Prelude.{◌≡◌, ◌≢◌, ◌+◌, ◌≤◌, max, ℕ, List, [], ◌∷◌, map, length, All, Contains, Option, None, Some, MatchOption, Bool, true}
+use Rattle.std.specs.Prelude.{◌≡◌, ◌≢◌, ◌+◌, ◌≤◌, max, ℕ, List, [], map, length, All, Option, Some, MatchOption, true}
 use Rattle.std.specs.List.{AllPairs, list_any, sum_by}
 use Rattle.ven_base.specs.declared.elem.Elem.{Elem}
 use Rattle.ven_base.specs.Extent.{Extent, elements_of}
@@ -8,7 +8,7 @@ use Rattle.shape_check.specs.declared.typed.Typed.{Typed}
 use Rattle.shape_check.specs.declared.checked.StmtKind.{StmtKind}
 use Rattle.shape_check.specs.declared.checked.StmtKind.TheVariants as kinds
 use Rattle.shape_check.specs.declared.checked.CheckedStmt.{CheckedStmt}
-use Rattle.shape_check.specs.Node.{Node, Name, Literal, One, Two, Cast, Select, Map, RowFold, Fold, elem_of, shape_of}
+use Rattle.shape_check.specs.Node.{Node, Name, Literal, One, Two, Cast, Select, Map, RowFold, Fold}
 use Rattle.shape_check.specs.Typed.{node_of}
 use Rattle.shape_check.specs.Statement.{Statement, Input, Let, Output, names_of, is_output, in_value}
 use Rattle.shape_check.specs.Rules.{AreTyped}

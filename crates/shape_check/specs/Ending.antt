@@ -6,7 +6,7 @@ use Rattle.shape_check.specs.declared.checked.StmtKind.{StmtKind}
 use Rattle.shape_check.specs.declared.checked.StmtKind.TheVariants as kinds
 use Rattle.shape_check.specs.declared.checked.CheckedStmt.{CheckedStmt}
 use Rattle.shape_check.specs.Node.{Node}
-use Rattle.shape_check.specs.Statement.{Statement, Input, Let, Output, names_of}
+use Rattle.shape_check.specs.Statement.{Statement, Let, Output, names_of}
 use Rattle.shape_check.specs.Rules.{AreTyped}
 use Rattle.shape_check.specs.Checked.{program_of, IsWhole, IsWithinLimits}
 

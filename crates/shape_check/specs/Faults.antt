@@ -1,5 +1,5 @@
 -- The rules of checking, each with its place, and the first that a program breaks.
-use Rattle.std.specs.Prelude.{◌≡◌, ◌≢◌, ◌≤◌, ◌<◌, ℕ, ℤ, ◌+◌, List, [], ◌∷◌, ◌++◌, map, take, length, Contains, Option, None, Some, slice_get, Bool, true, false}
+use Rattle.std.specs.Prelude.{◌≡◌, ◌≢◌, ◌≤◌, ◌<◌, ℕ, ℤ, ◌+◌, List, [], ◌∷◌, ◌++◌, map, take, Contains, Option, None, Some, slice_get, false}
 use Rattle.std.specs.List.{list_any}
 use Rattle.std.specs.Prelude.{◌⊎◌}
 use Rattle.ven_base.specs.declared.elem.Elem.{Elem}
@@ -38,8 +38,8 @@ parts_of (Transpose at a) = parts_of a ++ Transpose at a ∷ []
 parts_of (RowFold at fold a) = parts_of a ++ RowFold at fold a ∷ []
 parts_of (Fold at fold a) = parts_of a ++ Fold at fold a ∷ []
 
--- what is looked at: the name that a statement declares, the shape of an input, a node, an expression as a whole; and of the
--- program its outputs and its work
+-- what is looked at: the name that a statement declares, the shape of an input, a node, an expression as a whole; and
+-- of the program its outputs and its work
 pub data Site : Type 0 where
   NameSite : (name : List ℕ) (at : ℕ) → Site
   ShapeSite : (rows cols : ℤ) (at : ℕ) → Site
@@ -161,7 +161,8 @@ pub record IsFillOut (scope : Scope) (operand : Tree) (fill : ℤ) : Type 0 wher
 -- the first literal of a node that isn't in its type stands here
 abbrev pub IsFirstOut : Scope → Tree → ℕ → Type 0
 IsFirstOut scope (Two at op a b) p = IsOutBeside scope a b p ⊎ IsOutBeside scope b a p
-IsFirstOut scope (Select at c x y) p = IsOutBeside scope x c p ⊎ (((q : ℕ) → ¬ IsOutBeside scope x c q) × IsOutBeside scope y c p)
+IsFirstOut scope (Select at c x y) p =
+    IsOutBeside scope x c p ⊎ (((q : ℕ) → ¬ IsOutBeside scope x c q) × IsOutBeside scope y c p)
 IsFirstOut scope (Shift at a dr dc fill fill_at) p = (p ≡ fill_at) × IsFillOut scope a fill
 IsFirstOut scope _ p = ⊥
 

@@ -1,5 +1,5 @@
 -- Inner: the verdict on an expression, a statement and a program, from the verdicts on their parts.
-use Rattle.std.specs.Prelude.{◌≡◌, ◌+◌, ◌-◌, ◌*◌, ℕ, ℤ, pos, List, [], ◌∷◌, ◌++◌, length, Option, None, Some, Result, Ok, Err, position, slice_get, Bool, true, false, ◌&&◌, not, nat_le, nat_lt, ◌==◌, if◌then◌else◌, int_lt, ◌+ℤ◌, neg_ℤ, unsigned_abs}
+use Rattle.std.specs.Prelude.{◌≡◌, ◌+◌, ◌-◌, ◌*◌, ℕ, ℤ, pos, List, [], ◌∷◌, ◌++◌, Option, None, Some, Result, Ok, Err, position, slice_get, Bool, true, ◌&&◌, not, nat_le, nat_lt, ◌==◌, if◌then◌else◌, int_lt, ◌+ℤ◌, neg_ℤ}
 use Rattle.std.specs.List.{list_any}
 use Rattle.std.specs.Ordering.{int_eq}
 use Rattle.std.specs.Option.{option_map, is_some}
@@ -17,7 +17,6 @@ use Rattle.array_syntax.specs.declared.program.Stmt.{Stmt}
 use Rattle.array_syntax.specs.declared.program.Stmt.TheVariants as stmts
 use Rattle.array_syntax.specs.Tree.{Tree, Name, Literal, One, Two, Cast, Select, Shift, Rotate, Section, Stretch, Transpose, RowFold, Fold, tree_of}
 use Rattle.shape_check.specs.declared.typed.ArrayType.{ArrayType}
-use Rattle.shape_check.specs.declared.typed.Typed.{Typed}
 use Rattle.shape_check.specs.declared.operand.Operand as code
 use Rattle.shape_check.specs.declared.operand.Operand.TheVariants as code_operands
 use Rattle.shape_check.specs.declared.fault.CheckFault.{CheckFault}
@@ -94,7 +93,8 @@ has_shape type (Number at n) = true
 -- the operand with the type and shape of what stands beside it
 abbrev pub with_type : ArrayType → Operand → Result Node CheckFault
 with_type type (Array e) = Ok e
-with_type type (Number at n) = if is_in type.elem n then Ok (nodes.Literal type.elem type.shape n) else Err (LiteralRange at)
+with_type type (Number at n) =
+    if is_in type.elem n then Ok (nodes.Literal type.elem type.shape n) else Err (LiteralRange at)
 
 -- two operands of one type and shape
 pub record Both : Type 0 where
@@ -102,7 +102,8 @@ pub record Both : Type 0 where
   pub right : Node
 
 abbrev pub with_types : ArrayType → Operand → Operand → Result Both CheckFault
-with_types type a b = chain (with_type type a) (λ x. chain (with_type type b) (λ y. Ok (record { left = x; right = y })))
+with_types type a b =
+    chain (with_type type a) (λ x. chain (with_type type b) (λ y. Ok (record { left = x; right = y })))
 
 abbrev pub agree : ℕ → ArrayType → Operand → Operand → Result Both CheckFault
 agree at type a b =
@@ -155,7 +156,8 @@ abbrev pub map_of : Mapping → Node → Node
 map_of mapping e = nodes.Map (elem_of e) (result_shape mapping (shape_of e)) mapping e
 
 abbrev pub on_shift : ℤ → ℤ → ℤ → ℕ → Node → Verdict
-on_shift dr dc fill fill_at e = if is_in (elem_of e) fill then array (map_of (maps.Shift dr dc fill) e) else Err (LiteralRange fill_at)
+on_shift dr dc fill fill_at e =
+    if is_in (elem_of e) fill then array (map_of (maps.Shift dr dc fill) e) else Err (LiteralRange fill_at)
 
 abbrev pub on_section : ℕ → Mapping → Node → Verdict
 on_section at mapping e = if fits mapping (shape_of e) then array (map_of mapping e) else Err (BadSection at)
@@ -181,7 +183,8 @@ judge scope (Literal at n) = Ok (Number at n)
 judge scope (One at op a) = of_array (judge scope a) (λ e. array (one_of op e))
 judge scope (Two at op a b) = chain (judge scope a) (λ x. chain (judge scope b) (λ y. on_two at op x y))
 judge scope (Cast at elem a) = of_array (judge scope a) (λ e. array (cast_of elem e))
-judge scope (Select at c x y) = chain (judge scope c) (λ u. chain (judge scope x) (λ v. chain (judge scope y) (λ w. on_select at u v w)))
+judge scope (Select at c x y) =
+    chain (judge scope c) (λ u. chain (judge scope x) (λ v. chain (judge scope y) (λ w. on_select at u v w)))
 judge scope (Shift at a dr dc fill fill_at) = of_array (judge scope a) (on_shift dr dc fill fill_at)
 judge scope (Rotate at a dr dc) = of_array (judge scope a) (λ e. array (map_of (maps.Rotate dr dc) e))
 judge scope (Section at a r0 nr sr c0 nc sc) = of_array (judge scope a) (on_section at (section_of r0 nr sr c0 nc sc))
@@ -214,14 +217,16 @@ stmt_place (stmts.Let name at value) = at
 stmt_place (stmts.Output name at value) = at
 
 abbrev pub judge_statement : Scope → Stmt → Result Statement CheckFault
-judge_statement scope stmt = if is_some (find scope (stmt_name stmt)) then Err (Twice (stmt_place stmt)) else judge_new scope stmt
+judge_statement scope stmt =
+    if is_some (find scope (stmt_name stmt)) then Err (Twice (stmt_place stmt)) else judge_new scope stmt
 
 -- ---- programs
 
 -- the verdict on statements after these
 abbrev pub judge_all : List Statement → List Stmt → Result (List Statement) CheckFault
 judge_all earlier [] = Ok earlier
-judge_all earlier (stmt ∷ more) = chain (judge_statement (scope_of earlier) stmt) (λ s. judge_all (earlier ++ s ∷ []) more)
+judge_all earlier (stmt ∷ more) =
+    chain (judge_statement (scope_of earlier) stmt) (λ s. judge_all (earlier ++ s ∷ []) more)
 
 abbrev pub judge_end : List Statement → Result (List Statement) CheckFault
 judge_end program =

@@ -1,31 +1,21 @@
 -- What a checked program means: the value of an expression at an index, and the array of each statement.
-use Rattle.std.specs.Prelude.{◌≡◌, ℕ, zero, suc, ℤ, pos, negsuc, List, [], ◌∷◌, ◌++◌, map, length, slice_index_or, Option, None, Some, Bool, unwrap_or, slice_get}
+use Rattle.std.specs.Prelude.{◌≡◌, ℕ, ℤ, List, [], ◌∷◌, ◌++◌, slice_index_or, Some, unwrap_or}
 use Rattle.std.specs.Option.{option_map_or}
-use Rattle.std.specs.List.{range_with_len, flat_map, AllZip}
+use Rattle.std.specs.List.{AllZip}
 use Rattle.ven_base.specs.declared.elem.Elem.{Elem}
 use Rattle.ven_base.specs.Extent.{Extent, IsIndex}
 use Rattle.ven_base.specs.Wrap.{wrapped}
 use Rattle.ven_base.specs.Operation.{applied1, applied2}
+pub use Rattle.ven_base.specs.Operation.{chosen}
 use Rattle.ven_base.specs.Mapping.{source_of, fill_of}
 use Rattle.ven_base.specs.Folding.{folded}
 use Rattle.ven_base.specs.Grid.{Grid, IsGrid, value_at}
+pub use Rattle.ven_base.specs.Grid.{row_values, values_with, grid_with}
 use Rattle.ven_base.specs.Pairs.{Pairs, array_named}
 use Rattle.shape_check.specs.Node.{Node, Name, Literal, One, Two, Cast, Select, Map, RowFold, Fold, elem_of, shape_of}
 use Rattle.shape_check.specs.Statement.{Statement, Input, Let, Output}
 
 -- ---- arrays by their values
-
--- the values in a row of so many columns, where this is the value in each column
-abbrev pub row_values : ℕ → (ℕ → ℤ) → List ℤ
-row_values cols f = map f (range_with_len 0 cols)
-
--- the values at all indices of a shape, row by row, where this is the value at each index
-abbrev pub values_with : Extent → (ℕ → ℕ → ℤ) → List ℤ
-values_with shape f = flat_map (λ i. row_values shape.cols (f i)) (range_with_len 0 shape.rows)
-
--- the array of this type and shape with this value at each index
-abbrev pub grid_with : Elem → Extent → (ℕ → ℕ → ℤ) → Grid
-grid_with elem shape f = record { elem = elem; shape = shape; values = values_with shape f }
 
 -- an array that stands where none is
 abbrev pub no_grid : Elem → Extent → Grid
@@ -37,12 +27,6 @@ array_at arrays elem shape k = slice_index_or arrays k (no_grid elem shape)
 
 -- ---- expressions
 
--- x where c isn't 0, else y
-abbrev pub chosen : ℤ → ℤ → ℤ → ℤ
-chosen (pos zero) x y = y
-chosen (pos (suc c)) x y = x
-chosen (negsuc c) x y = x
-
 -- the value of an expression in row i and column j, where these are the names' arrays
 abbrev pub expr_at : List Grid → Node → ℕ → ℕ → ℤ
 expr_at arrays (Name elem shape k) i j = value_at (array_at arrays elem shape k) i j
@@ -50,8 +34,10 @@ expr_at arrays (Literal elem shape value) i j = value
 expr_at arrays (One elem shape op a) i j = applied1 op elem (expr_at arrays a i j)
 expr_at arrays (Two elem shape op a b) i j = applied2 op elem (expr_at arrays a i j) (expr_at arrays b i j)
 expr_at arrays (Cast elem shape a) i j = wrapped elem (expr_at arrays a i j)
-expr_at arrays (Select elem shape c x y) i j = chosen (expr_at arrays c i j) (expr_at arrays x i j) (expr_at arrays y i j)
-expr_at arrays (Map elem shape mapping a) i j = option_map_or (λ s. expr_at arrays a s.0 s.1) (source_of mapping (shape_of a) i j) (fill_of mapping)
+expr_at arrays (Select elem shape c x y) i j =
+    chosen (expr_at arrays c i j) (expr_at arrays x i j) (expr_at arrays y i j)
+expr_at arrays (Map elem shape mapping a) i j =
+    option_map_or (λ s. expr_at arrays a s.0 s.1) (source_of mapping (shape_of a) i j) (fill_of mapping)
 expr_at arrays (RowFold elem shape fold a) i j = folded fold elem (row_values (shape_of a).cols (expr_at arrays a i))
 expr_at arrays (Fold elem shape fold a) i j = folded fold elem (values_with (shape_of a) (expr_at arrays a))
 
@@ -74,7 +60,8 @@ statement_array inputs arrays (Output name value) = array_of arrays value
 -- the arrays of all statements: those of the earlier ones, then those of these
 abbrev pub arrays_from : Pairs → List Grid → List Statement → List Grid
 arrays_from inputs arrays [] = arrays
-arrays_from inputs arrays (statement ∷ more) = arrays_from inputs (arrays ++ statement_array inputs arrays statement ∷ []) more
+arrays_from inputs arrays (statement ∷ more) =
+    arrays_from inputs (arrays ++ statement_array inputs arrays statement ∷ []) more
 
 abbrev pub arrays_of : Pairs → List Statement → List Grid
 arrays_of inputs program = arrays_from inputs [] program

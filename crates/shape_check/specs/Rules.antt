@@ -1,5 +1,5 @@
 -- The rules that a checked expression keeps at each node.
-use Rattle.std.specs.Prelude.{◌≡◌, ◌≢◌, ℕ, pos, List, [], ◌∷◌, ◌++◌, map, Option, Some, slice_get, Bool, true, false, ◌&&◌}
+use Rattle.std.specs.Prelude.{◌≡◌, ◌≢◌, List, [], ◌∷◌, ◌++◌, Some, slice_get, false, ◌&&◌}
 use Rattle.ven_base.specs.declared.elem.Elem.{Elem}
 use Rattle.ven_base.specs.declared.mapping.Mapping.{Mapping}
 use Rattle.ven_base.specs.declared.mapping.Mapping.TheVariants.{Identity}
@@ -36,7 +36,8 @@ pub record HaveAll (elem : Elem) (shape : Extent) (c x y : Node) : Type 0 where
   pub other : Has elem shape y
   pub no_literal : is_literal c ≡ false
 
--- the map may be taken of the operand, and gives this type and shape; where it has no source, it has a number of the type
+-- the map may be taken of the operand, and gives this type and shape; where it has no source, it has a number of the
+-- type
 pub record IsMapOf (elem : Elem) (shape : Extent) (mapping : Mapping) (e : Node) : Type 0 where
   pub moves : mapping ≢ Identity
   pub fits : FitsShape mapping (shape_of e)
@@ -65,7 +66,8 @@ IsTyped types (Two elem shape op a b) = IsTyped types a × IsTyped types b × Ha
 IsTyped types (Cast elem shape a) = IsTyped types a × IsCastOf shape a
 IsTyped types (Select elem shape c x y) = IsTyped types c × IsTyped types x × IsTyped types y × HaveAll elem shape c x y
 IsTyped types (Map elem shape mapping a) = IsTyped types a × IsMapOf elem shape mapping a
-IsTyped types (RowFold elem shape fold a) = IsTyped types a × IsReductionOf elem shape (record { rows = (shape_of a).rows; cols = 1 }) a
+IsTyped types (RowFold elem shape fold a) =
+    IsTyped types a × IsReductionOf elem shape (record { rows = (shape_of a).rows; cols = 1 }) a
 IsTyped types (Fold elem shape fold a) = IsTyped types a × IsReductionOf elem shape (record { rows = 1; cols = 1 }) a
 
 -- the type and the shape of a statement's array
@@ -80,7 +82,9 @@ IsTypedStatement types (Input name elem shape) = IsExtent shape
 IsTypedStatement types (Let name value) = IsTyped types value × IsArray value
 IsTypedStatement types (Output name value) = IsTyped types value × IsArray value
 
--- statements after others whose arrays have these types and shapes. An expression sees the names of earlier statements alone
+-- statements after others whose arrays have these types and shapes. An expression sees the names of earlier
+-- statements alone
 abbrev pub AreTyped : List ArrayType → List Statement → Type 0
 AreTyped types [] = Unit {0}
-AreTyped types (statement ∷ more) = IsTypedStatement types statement × AreTyped (types ++ declared_type statement ∷ []) more
+AreTyped types (statement ∷ more) =
+    IsTypedStatement types statement × AreTyped (types ++ declared_type statement ∷ []) more

@@ -1,8 +1,8 @@
 -- Checked programs as plain lists of statements.
-use Rattle.std.specs.Prelude.{ℕ, List, [], ◌∷◌, map, Bool, true, false}
+use Rattle.std.specs.Prelude.{ℕ, List, map, Bool, true, false}
 use Rattle.ven_base.specs.declared.elem.Elem.{Elem}
 use Rattle.ven_base.specs.Extent.{Extent}
-use Rattle.shape_check.specs.Node.{Node, elem_of, shape_of}
+use Rattle.shape_check.specs.Node.{Node}
 
 pub data Statement : Type 0 where
   Input : (name : List ℕ) (elem : Elem) (shape : Extent) → Statement

@@ -12,7 +12,8 @@ node_with (Literal value) elem shape = plain.Literal elem shape value
 node_with (One' op p a ea sa) elem shape = plain.One elem shape op (node_with a ea sa)
 node_with (Two' op p a ea sa q b eb sb) elem shape = plain.Two elem shape op (node_with a ea sa) (node_with b eb sb)
 node_with (Cast' p a ea sa) elem shape = plain.Cast elem shape (node_with a ea sa)
-node_with (Select' p c ec sc q x ex sx r y ey sy) elem shape = plain.Select elem shape (node_with c ec sc) (node_with x ex sx) (node_with y ey sy)
+node_with (Select' p c ec sc q x ex sx r y ey sy) elem shape =
+    plain.Select elem shape (node_with c ec sc) (node_with x ex sx) (node_with y ey sy)
 node_with (Map' mapping p a ea sa) elem shape = plain.Map elem shape mapping (node_with a ea sa)
 node_with (RowFold' fold p a ea sa) elem shape = plain.RowFold elem shape fold (node_with a ea sa)
 node_with (Fold' fold p a ea sa) elem shape = plain.Fold elem shape fold (node_with a ea sa)

@@ -1,5 +1,6 @@
--- Which checked program a program is: its own statements and expressions, with a type and a shape at each node by the rules.
-use Rattle.std.specs.Prelude.{◌≡◌, ◌≢◌, ◌≤◌, ℕ, ℤ, unsigned_abs, List, [], ◌∷◌, ◌++◌, Some, Contains, slice_get, Bool, true}
+-- Which checked program a program is: its own statements and expressions, with a type and a shape at each node by the
+-- rules.
+use Rattle.std.specs.Prelude.{◌≡◌, ◌≤◌, ℕ, ℤ, unsigned_abs, List, [], ◌∷◌, ◌++◌, Some, Contains, slice_get, true}
 use Rattle.std.specs.List.{list_any}
 use Rattle.ven_base.specs.declared.elem.Elem.{Elem}
 use Rattle.ven_base.specs.declared.ops.Op1.{Op1}
@@ -89,7 +90,9 @@ pub record IsFold (fold : ops.Fold) (A : Node → Type 0) (e : Node) : Type 0 wh
 
 -- the numbers of a section and of a stretch have no sign
 abbrev pub section_of : ℤ → ℤ → ℤ → ℤ → ℤ → ℤ → Mapping
-section_of r0 nr sr c0 nc sc = maps.Section (unsigned_abs r0) (unsigned_abs nr) (unsigned_abs sr) (unsigned_abs c0) (unsigned_abs nc) (unsigned_abs sc)
+section_of r0 nr sr c0 nc sc =
+    maps.Section (unsigned_abs r0) (unsigned_abs nr) (unsigned_abs sr) (unsigned_abs c0) (unsigned_abs nc)
+    (unsigned_abs sc)
 
 abbrev pub stretch_of : ℤ → ℤ → Mapping
 stretch_of kr kc = maps.Stretch (unsigned_abs kr) (unsigned_abs kc)
@@ -125,7 +128,8 @@ pub record IsValueOf (scope : Scope) (tree : Tree) (make : Node → Statement) (
   pub spells : Spells scope tree value
 
 abbrev pub SpellsStatement : Scope → Stmt → Statement → Type 0
-SpellsStatement scope (stmts.Input name at elem rows cols shape_at) statement = statement ≡ Input name elem (extent_of rows cols)
+SpellsStatement scope (stmts.Input name at elem rows cols shape_at) statement =
+    statement ≡ Input name elem (extent_of rows cols)
 SpellsStatement scope (stmts.Let name at value) statement = IsValueOf scope (tree_of value) (Let name) statement
 SpellsStatement scope (stmts.Output name at value) statement = IsValueOf scope (tree_of value) (Output name) statement
 
@@ -140,7 +144,8 @@ abbrev pub AreTypings : Scope → List Stmt → List Statement → Type 0
 AreTypings scope [] [] = Unit {0}
 AreTypings scope [] (statement ∷ rest) = ⊥
 AreTypings scope (stmt ∷ more) [] = ⊥
-AreTypings scope (stmt ∷ more) (statement ∷ rest) = IsStatementTyping scope stmt statement × AreTypings (scope ++ entry_of statement ∷ []) more rest
+AreTypings scope (stmt ∷ more) (statement ∷ rest) =
+    IsStatementTyping scope stmt statement × AreTypings (scope ++ entry_of statement ∷ []) more rest
 
 -- the checked program that a program is given: it has an output, and its work is within the limit
 pub record IsProgramTyping (stmts : List Stmt) (program : List Statement) : Type 0 where

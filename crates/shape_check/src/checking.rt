@@ -129,7 +129,8 @@ fn input(
     cols: u32,
     shape_at: u32,
 ) -> Result<CheckedStmt, CheckFault>
-    ensures verdict { Answers statement_of (judge_input name elem (record { rows = rows; cols = cols }) shape_at) result }
+    ensures verdict { Answers statement_of
+        (judge_input name elem (record { rows = rows; cols = cols }) shape_at) result }
     ensures whole { IfOk result IsWhole }
 {
     match Shape::new(rows, cols) {

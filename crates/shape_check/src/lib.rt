@@ -15,6 +15,8 @@ mod laws;
 mod names;
 mod operand;
 mod rules;
+#[cfg(test)]
+mod tests;
 mod typed;
 mod work;
 

@@ -1,6 +1,5 @@
 use Rattle.std.proofs.Common.{◌≡◌, [], sym, ap, ◌∙◌, subst, Ok, List}
 use Rattle.array_syntax.specs.declared.program.Stmt.{Stmt}
-use Rattle.shape_check.specs.Statement.{Statement}
 use Rattle.shape_check.specs.Checked.{program_of}
 use Rattle.shape_check.specs.Faults.{IsAnswered}
 use Rattle.shape_check.specs.Judge.{judge_all, judge_end, Refuses}

@@ -1,9 +1,8 @@
-use Rattle.std.proofs.Common.{◌≡◌, ℕ, ◌∷◌, [], ◌++◌, ◌+◌, ◌≤◌, List, length, drop, sym, ap, ◌∙◌, subst, arith, length-append}
+use Rattle.std.proofs.Common.{◌≡◌, ◌∷◌, [], ◌++◌, ◌+◌, length, drop, sym, ap, ◌∙◌, arith, length-append}
 use Rattle.std.proofs.lemmas.List.{map-append}
 use Rattle.std.proofs.lemmas.List.Elements.{All-push}
-use Rattle.shape_check.specs.declared.typed.ArrayType.{ArrayType}
 use Rattle.shape_check.specs.Statement.{Statement}
-use Rattle.shape_check.specs.Scope.{Scope, entry_of, scope_of}
+use Rattle.shape_check.specs.Scope.{entry_of, scope_of}
 use Rattle.shape_check.specs.Checked.{statement_of, program_of, IsWhole}
 use Rattle.shape_check.specs.Judge.{chain, judge_statement, judge_all}
 use Rattle.shape_check.proofs.Arms.{exit_chain, same_verdict}

@@ -1,17 +1,15 @@
-use Rattle.std.proofs.Common.{◌≡◌, ◌<◌, ℕ, sym, ap, ◌∙◌, subst, refl, arith, Ok, Err, rules}
-use Rattle.std.specs.Prelude.{ℤ}
+use Rattle.std.proofs.Common.{◌≡◌, sym, ap, ◌∙◌, subst, refl, arith, Ok}
 use Rattle.std.specs.Int.{w64}
 use mir.Val.{to_z, of_z}
 use Rattle.ven_base.specs.Place.{IsMove}
 use Rattle.ven_base.specs.declared.mapping.Mapping.TheVariants as maps
-use Rattle.array_syntax.specs.Limits.{IsWritable, IsSigned, IsNumber, height}
+use Rattle.array_syntax.specs.Limits.{IsWritable, IsNumber, height}
 use Rattle.array_syntax.specs.Tree as trees
 use Rattle.array_syntax.specs.Tree.{Tree, tree_of}
 use Rattle.shape_check.specs.Node.{Node}
 use Rattle.shape_check.specs.Typed.{node_of}
 use Rattle.shape_check.specs.Typing.{section_of, stretch_of}
-use Rattle.shape_check.specs.Judge.{Operand, Number, Verdict, Answers, operand_of, judge, lone, chain, array, on_name, one_of, cast_of, on_two, on_select, map_of, on_shift, on_section, on_stretch, row_fold_of, fold_of}
-use Rattle.shape_check.specs.Numbers.{AreCuts, AreRepeats}
+use Rattle.shape_check.specs.Judge.{Operand, Number, Verdict, operand_of, judge, lone, chain, array, on_name, one_of, cast_of, on_two, on_select, map_of, on_shift, on_section, on_stretch, row_fold_of, fold_of}
 use Rattle.shape_check.proofs.Arms.{exit_chain, go_on, same_verdict, move_of, read_signed, signed_of, at_name, at_literal, at_one, at_two, at_cast, at_select, at_shift, at_rotate, at_section, at_stretch, at_transpose, at_row_fold, at_fold}
 use Rattle.shape_check.proofs.expr.+operands.Goals as goal
 

@@ -1,12 +1,11 @@
-use Rattle.std.proofs.Common.{◌≡◌, ℕ, sym, ap, ◌∙◌, Bool, true, false, Ok, Err}
-use Rattle.std.specs.Prelude.{ℤ, not}
+use Rattle.std.proofs.Common.{◌≡◌, sym, ap, ◌∙◌, true, Err}
 use Rattle.std.specs.Int.{w64}
 use Rattle.std.proofs.lemmas.Int.{to_z-of_z}
 use mir.Val.{to_z, of_z}
 use Rattle.ven_base.specs.declared.elem.Elem.{Elem}
 use Rattle.ven_base.specs.declared.mapping.Mapping.TheVariants as maps
 use Rattle.shape_check.specs.declared.fault.CheckFault.TheVariants.{LiteralRange}
-use Rattle.shape_check.specs.Node.{Node, elem_of}
+use Rattle.shape_check.specs.Node.{elem_of}
 use Rattle.shape_check.specs.Typed.{node_of}
 use Rattle.shape_check.specs.Judge.{is_in, map_of, array}
 use Rattle.shape_check.proofs.Plain.{elem_with}

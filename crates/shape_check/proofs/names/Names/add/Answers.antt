@@ -1,9 +1,8 @@
-use Rattle.std.proofs.Common.{◌≡◌, ◌∷◌, [], ◌++◌, None, ap, ◌∙◌, subst, sym}
+use Rattle.std.proofs.Common.{◌≡◌, ◌∷◌, [], ◌++◌, None, ap, ◌∙◌}
 use Rattle.std.specs.Str.{bytes_eq}
 use Rattle.indexmap.specs.IndexMap.{get}
 use Rattle.indexmap.proofs.CallerLemmas.{insert_entry-new}
 use Rattle.shape_check.specs.Scope.{Scope}
-use Rattle.shape_check.specs.Judge.{find}
 use Rattle.shape_check.proofs.Lookups.{lookup-none}
 use Rattle.shape_check.proofs.names.Names.add.Goals as goal
 
