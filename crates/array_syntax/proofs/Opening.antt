@@ -68,21 +68,6 @@ reduce_low l m e (frames.Binary at op a ∷ stack) low = chosen_low l at m op a 
 reduce_low l m e (frames.Bracket ∷ stack) low = low
 reduce_low l m e (frames.Call at callee before ∷ stack) low = low
 
--- an item more or less
-pub depth_same : (frame : Frame) (stack : List Frame) → opens frame ≡ false → depth_of (frame ∷ stack) ≡ depth_of stack
-depth_same (frames.Body done binding name at) stack is = refl
-depth_same (frames.Binary at op a) stack is = refl
-depth_same (frames.Prefix at sign) stack is = absurd (cc)
-depth_same frames.Bracket stack is = absurd (cc)
-depth_same (frames.Call at callee before) stack is = absurd (cc)
-
-pub depth_more : (frame : Frame) (stack : List Frame) → opens frame ≡ true → depth_of (frame ∷ stack) ≡ depth_of stack + 1
-depth_more (frames.Body done binding name at) stack is = absurd (cc)
-depth_more (frames.Binary at op a) stack is = absurd (cc)
-depth_more (frames.Prefix at sign) stack is = refl
-depth_more frames.Bracket stack is = refl
-depth_more (frames.Call at callee before) stack is = refl
-
 -- what is left of the stack when nodes are made is no deeper
 pub reduced_depth : (l : ℕ) (e node : Expr) (stack rest : List Frame) → Have node rest ≡ reduce l e stack → depth_of rest ≤ depth_of stack
 reduced_depth l e node stack rest is = subst (λ s. depth_in s ≤ depth_of stack) (sym is) (reduce_low l (depth_of stack) e stack (omega arith))

@@ -150,15 +150,6 @@ one_by r b n m e t is = is ∙ ap (λ x. and_one x n) (sym t ∙ e)
 pub none_by : (r b : Bool) (n m : ℕ) → r ≡ b → r ≡ false → m ≡ n → m ≡ and_one b n
 none_by r b n m e f is = is ∙ ap (λ x. and_one x n) (sym f ∙ e)
 
--- why a token isn't taken, whatever would have stood behind it
-pub refused_on : (s : State) (t : Token) (after other : Phase → State) (refusal : Refusal) → Advanced s t after (Err refusal) → Advanced s t other (Err refusal)
-refused_on s t after other refusals.TooHigh h = h
-refused_on s t after other refusals.Unexpected h = h
-refused_on s t after other refusals.TooManyOpen h = h
-refused_on s t after other refusals.TooManyStatements h = h
-refused_on s t after other refusals.TooManyNodes h = h
-refused_on s t after other refusals.Memory h = tt
-
 -- what taking a word comes to
 pub word_taken : (text : List ℕ) (p : Parsing) (raw : TextToken) (word : Word) (result : Result Parsing ParseFault) → IsReady text p.from (state_of p.phase p.stack) p.nodes (Ok raw) → raw.kind ≢ token_kinds.End → Some word ≡ word_of raw.kind (bytes_of text raw) → Takes p raw word result → MatchResult result (λ next. IsParsing text next × (p.from < next.from)) (λ fault. IsAnswered text fault)
 word_taken text p raw word (Ok next) r some is h =

@@ -95,22 +95,6 @@ level_up_to operators.LessOrEqual = omega arith
 level_up_to operators.Greater = omega arith
 level_up_to operators.GreaterOrEqual = omega arith
 
-pub right_up_to : (op : Operator) → right_level op ≤ left_level op
-right_up_to operators.Times = omega arith
-right_up_to operators.Plus = omega arith
-right_up_to operators.Minus = omega arith
-right_up_to operators.ShiftLeft = omega arith
-right_up_to operators.ShiftRight = omega arith
-right_up_to operators.And = omega arith
-right_up_to operators.Xor = omega arith
-right_up_to operators.Or = omega arith
-right_up_to operators.Equal = omega arith
-right_up_to operators.NotEqual = omega arith
-right_up_to operators.Less = omega arith
-right_up_to operators.LessOrEqual = omega arith
-right_up_to operators.Greater = omega arith
-right_up_to operators.GreaterOrEqual = omega arith
-
 pub is_le : (a b : ℕ) → a ≤ b → nat_le a b ≡ true
 is_le a b h = grind arith
 
@@ -177,21 +161,6 @@ reduce_one l e (frames.Binary at op a) rest ends = reduce_binary l at op a e res
 reduce_one l e (frames.Body done binding name at) rest ends = absurd ends
 reduce_one l e frames.Bracket rest ends = absurd ends
 reduce_one l e (frames.Call at callee before) rest ends = absurd ends
-
--- one item that ends is made a node
-pub reduce_ends : (l : ℕ) (e : Expr) (frame : Frame) (rest stack : List Frame) → stack ≡ frame ∷ rest → Ends l stack → reduce l e stack ≡ reduce l (ended frame e) rest
-reduce_ends l e frame rest stack is ends = ap (reduce l e) is ∙ reduce_one l e frame rest (subst (Ends l) is ends)
-
--- where the innermost item doesn't end nothing is made
-pub reduce_kept : (l : ℕ) (e : Expr) (stack : List Frame) → ¬ Ends l stack → reduce l e stack ≡ Have e stack
-reduce_kept l e [] stays = refl
-reduce_kept l e (frames.Body done binding name at ∷ stack) stays = refl
-reduce_kept l e (frames.Prefix at sign ∷ stack) stays = absurd (stays tt)
-reduce_kept l e (frames.Binary at op a ∷ stack) stays =
-    let lt : l < level op = omega (arith, stays) in
-    ap (λ b. choose b (reduce l (two at op a e) stack) (Have e (frames.Binary at op a ∷ stack))) (not_le (level op) l lt)
-reduce_kept l e (frames.Bracket ∷ stack) stays = refl
-reduce_kept l e (frames.Call at callee before ∷ stack) stays = refl
 
 pub some_is : {A : Type 0} (a b : A) → Some a ≡ Some b → a ≡ b
 some_is a b e = cc

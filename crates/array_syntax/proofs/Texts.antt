@@ -142,9 +142,6 @@ token_word text raw = word_of raw.kind (bytes_of text raw)
 seen_none : (text : List ℕ) (raw : TextToken) → token_word text raw ≡ None → seen text (Ok raw) ≡ None
 seen_none text raw is = ap (option_map (λ word. token raw.start word)) is
 
-seen_some : (text : List ℕ) (raw : TextToken) (word : Word) → token_word text raw ≡ Some word → seen text (Ok raw) ≡ Some (token raw.start word)
-seen_some text raw word is = ap (option_map (λ word. token raw.start word)) is
-
 has_none : (text : List ℕ) (raw : TextToken) (t : Token) → seen text (Ok raw) ≡ Some t → ¬ HasNone raw.kind (bytes_of text raw)
 has_none text raw t is none = none_some t (sym (seen_none text raw (no_word raw.kind (bytes_of text raw) none)) ∙ is)
 

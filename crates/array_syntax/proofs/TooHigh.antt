@@ -145,13 +145,3 @@ sign_stepped t op e node stack rest (Some next) after is red low h = (
   λ high. h.0 low (subst (λ w. IsHigher most_height (reduce (last_of w) node rest)) (last_is t.word op is) (subst (IsHigher most_height) (reduced_on t.word e node stack rest red) high)),
   h.1 ∙ ap (λ o. act_of o t node rest) is ∙ ap (act t) red,
 )
-
--- what isn't a sign, behind an expression that isn't too high
-pub plain_stepped : (t : Token) (e node : Expr) (stack rest : List Frame) (next : Phase) (after : Phase → State) → None ≡ op_of t.word → Have node rest ≡ reduce (reach_of (op_of t.word)) e stack → (¬ (most_height < height (tree_of node))) → after next ≡ close t.word node rest → Stepped (Have e stack) t (Some next) after
-plain_stepped t e node stack rest next after is red low h =
-    let reaches : reduce (last_of t.word) e stack ≡ Have node rest = sym (ap (λ l. reduce l e stack) (plain_last t.word is)) ∙ sym red in
-    (λ high. low (subst (IsHigher most_height) reaches high), h ∙ ap (λ o. act_of o t node rest) is ∙ ap (act t) red)
-  where
-    plain_last : (word : Word) → None ≡ op_of word → reach_of (op_of word) ≡ last_of word
-    plain_last (words.Operator op) is = absurd (cc)
-    plain_last _ is = refl

@@ -129,9 +129,6 @@ keywords_short = (omega arith, (omega arith, (omega arith, (omega arith, (omega 
 is_false : (a b : ℕ) → b < a → nat_le a b ≡ false
 is_false a b lt = grind arith
 
-is_true : (a b : ℕ) → a ≤ b → nat_le a b ≡ true
-is_true a b le = grind arith
-
 -- a name that is too long has no word
 long_none : (bytes : List ℕ) → most_name_bytes < length bytes → (o : Option Word) → look_up keywords bytes ≡ o → name_word o bytes ≡ None
 long_none bytes long (Some word) is = let short = found_short keywords bytes word keywords_short is in absurd (omega arith)
@@ -171,15 +168,6 @@ none_is token_kinds.Name bytes spelled is = name_none bytes (look_up keywords by
 none_is token_kinds.Number bytes spelled is = number_none bytes (nat_le (value_of bytes) number_limit) refl is
 none_is token_kinds.Sign bytes spelled is = absurd (sign_found bytes spelled is)
 none_is _ bytes spelled is = tt
-
--- what a name token's word is, by whether it is kept and how long it is
-pub name_answer : (bytes : List ℕ) (result : Option Word) → IsNameToken bytes → look_up keywords bytes ≡ None → (found : Option (List ℕ)) → result ≡ option_map words.Name found → ((found ≡ None) ⊎ (found ≡ Some bytes)) → (IsName bytes → found ≡ Some bytes) → (found ≡ Some bytes → IsName bytes) → result ≡ name_word (look_up keywords bytes) bytes
-name_answer bytes result token none found is either some only =
-    is ∙ name_by (length bytes) (nat_le (length bytes) most_name_bytes) refl ∙ sym (ap (λ o. name_word o bytes) none)
-  where
-    name_by : (n : ℕ) (b : Bool) → nat_le (length bytes) most_name_bytes ≡ b → option_map words.Name found ≡ (if b then Some (words.Name bytes) else None)
-    name_by n true le = ap (option_map words.Name) (some (record { token = token; short = grind arith; free = free_of_reserved bytes none }))
-    name_by n false le = ⊎_elim (λ e. ap (option_map words.Name) e) (λ e. let h = (only e).short in absurd (grind arith)) either
 
 -- a word that a token may say: a free name, or a number in range
 abbrev pub Fits : Word → Type 0
@@ -230,6 +218,3 @@ name_refused bytes token none refused = by (nat_le (length bytes) most_name_byte
     by : (b : Bool) → nat_le (length bytes) most_name_bytes ≡ b → None ≡ name_word None bytes
     by true le = absurd (refused (record { token = token; short = grind arith; free = free_of_reserved bytes (sym none) }))
     by false le = ap (λ b. if b then Some (words.Name bytes) else None) (sym le)
-
-pub line_passes : (kind : TokenKind) → kind ≡ token_kinds.Line → IsTrue (language.passes kind)
-line_passes kind is = ap language.passes is

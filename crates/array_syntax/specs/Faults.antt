@@ -42,12 +42,23 @@ nodes_before (earlier.Two a b) = nodes (tree_of a) + nodes (tree_of b)
 -- behind these tokens an expression of the level or a tighter one may begin, with this word; it is inside so many open
 -- brackets and prefix signs, and so many nodes of the program have their token before it
 pub data MayBegin : ℕ → ℕ → ℕ → List Token → Word → Type 0 where
-  AtValue : (word_at at sign : ℕ) (binding : Binding) (name : List ℕ) (before : List Token) (p : List Stmt) (word : Word) → AreStatements before p → MayBegin loosest 0 (nodes_in p) (before ++ token word_at (words.Bind binding) ∷ token at (words.Name name) ∷ token sign words.Assign ∷ []) word
-  InBrackets : (l depth count at : ℕ) (before : List Token) (word : Word) → MayBegin l depth count before words.Open → MayBegin loosest (depth + 1) count (before ++ token at words.Open ∷ []) word
-  BehindFlip : (l depth count at : ℕ) (before : List Token) (word : Word) → MayBegin l depth count before words.Tilde → MayBegin 0 (depth + 1) (count + 1) (before ++ token at words.Tilde ∷ []) word
-  BehindNegate : (l depth count at : ℕ) (before : List Token) (word : Word) → ¬ IsNumber word → MayBegin l depth count before minus → MayBegin 0 (depth + 1) (count + 1) (before ++ token at minus ∷ []) word
-  BehindSign : (l depth count at : ℕ) (op : Operator) (before rest : List Token) (first : Token) (a : Expr) (word : Word) → MayBegin l depth count before first.word → level op ≤ l → IsExpr (left_level op) (first ∷ rest) a → MayBegin (right_level op) depth (count + nodes (tree_of a) + 1) (before ++ (first ∷ rest ++ token at (words.Operator op) ∷ [])) word
-  InCall : (l depth count at : ℕ) (callee : Callee) (operands : Earlier) (before begun : List Token) (word : Word) → MayBegin l depth count before (words.Call callee) → IsBegun at callee operands begun → MayBegin loosest (depth + 1) (count + nodes_before operands + 1) (before ++ begun) word
+  AtValue : (word_at at sign : ℕ) (binding : Binding) (name : List ℕ) (before : List Token) (p : List Stmt) (word : Word)
+      → AreStatements before p
+      → MayBegin loosest 0 (nodes_in p) (before ++ token word_at (words.Bind binding) ∷ token at (words.Name name)
+      ∷ token sign words.Assign ∷ []) word
+  InBrackets : (l depth count at : ℕ) (before : List Token) (word : Word) → MayBegin l depth count before words.Open
+      → MayBegin loosest (depth + 1) count (before ++ token at words.Open ∷ []) word
+  BehindFlip : (l depth count at : ℕ) (before : List Token) (word : Word) → MayBegin l depth count before words.Tilde
+      → MayBegin 0 (depth + 1) (count + 1) (before ++ token at words.Tilde ∷ []) word
+  BehindNegate : (l depth count at : ℕ) (before : List Token) (word : Word) → ¬ IsNumber word
+      → MayBegin l depth count before minus → MayBegin 0 (depth + 1) (count + 1) (before ++ token at minus ∷ []) word
+  BehindSign : (l depth count at : ℕ) (op : Operator) (before rest : List Token) (first : Token) (a : Expr) (word : Word)
+      → MayBegin l depth count before first.word → level op ≤ l → IsExpr (left_level op) (first ∷ rest) a
+      → MayBegin (right_level op) depth (count + nodes (tree_of a) + 1) (before ++ (first ∷ rest
+      ++ token at (words.Operator op) ∷ [])) word
+  InCall : (l depth count at : ℕ) (callee : Callee) (operands : Earlier) (before begun : List Token) (word : Word)
+      → MayBegin l depth count before (words.Call callee) → IsBegun at callee operands begun
+      → MayBegin loosest (depth + 1) (count + nodes_before operands + 1) (before ++ begun) word
 
 -- the tokens end with this expression, and no binary sign up to the level takes its last operand away
 pub record EndsWith (tokens : List Token) (last : ℕ) (e : Expr) : Type 0 where
@@ -84,10 +95,16 @@ IsNumberNext (Err fault) = ⊥
 
 -- the token behind these opens a bracket or is a prefix sign, where so many are open
 pub data Opens (text : List ℕ) : ℕ → List Token → Token → Type 0 where
-  Bracket : (l depth count at : ℕ) (before : List Token) → MayBegin l depth count before words.Open → Opens text depth before (token at words.Open)
-  Flip : (l depth count at : ℕ) (before : List Token) → MayBegin l depth count before words.Tilde → Opens text depth before (token at words.Tilde)
-  Negate : (l depth count at : ℕ) (before : List Token) (next : Result TextToken TokenFault) → MayBegin l depth count before minus → IsBehind language text (before ++ token at minus ∷ []) next → ¬ IsNumberNext next → Opens text depth before (token at minus)
-  Call : (l depth count place at : ℕ) (callee : Callee) (before : List Token) → MayBegin l depth count before (words.Call callee) → Opens text depth (before ++ token place (words.Call callee) ∷ []) (token at words.Open)
+  Bracket : (l depth count at : ℕ) (before : List Token) → MayBegin l depth count before words.Open
+      → Opens text depth before (token at words.Open)
+  Flip : (l depth count at : ℕ) (before : List Token) → MayBegin l depth count before words.Tilde
+      → Opens text depth before (token at words.Tilde)
+  Negate : (l depth count at : ℕ) (before : List Token) (next : Result TextToken TokenFault)
+      → MayBegin l depth count before minus → IsBehind language text (before ++ token at minus ∷ []) next
+      → ¬ IsNumberNext next → Opens text depth before (token at minus)
+  Call : (l depth count place at : ℕ) (callee : Callee) (before : List Token)
+      → MayBegin l depth count before (words.Call callee)
+      → Opens text depth (before ++ token place (words.Call callee) ∷ []) (token at words.Open)
 
 -- the word begins an operand, and is its node's token
 abbrev pub IsOperand : Word → Type 0
@@ -100,8 +117,11 @@ IsOperand _ = ⊥
 
 -- the token behind these is a node's, and so many nodes have theirs before
 pub data IsNode : ℕ → List Token → Token → Type 0 where
-  Operand : (l depth count : ℕ) (before : List Token) (t : Token) → MayBegin l depth count before t.word → IsOperand t.word → IsNode count before t
-  Sign : (l depth count at : ℕ) (op : Operator) (before rest : List Token) (first : Token) (a : Expr) → MayBegin l depth count before first.word → level op ≤ l → IsExpr (left_level op) (first ∷ rest) a → IsNode (count + nodes (tree_of a)) (before ++ first ∷ rest) (token at (words.Operator op))
+  Operand : (l depth count : ℕ) (before : List Token) (t : Token) → MayBegin l depth count before t.word
+      → IsOperand t.word → IsNode count before t
+  Sign : (l depth count at : ℕ) (op : Operator) (before rest : List Token) (first : Token) (a : Expr)
+      → MayBegin l depth count before first.word → level op ≤ l → IsExpr (left_level op) (first ∷ rest) a
+      → IsNode (count + nodes (tree_of a)) (before ++ first ∷ rest) (token at (words.Operator op))
 
 -- the word begins a statement
 abbrev pub BeginsStatement : Word → Type 0
@@ -112,8 +132,10 @@ BeginsStatement _ = ⊥
 -- the program can't go on with what stands there: a byte that begins no token, the text's end, or a token
 pub data IsUnexpected (text : List ℕ) (tokens : List Token) : Result TextToken TokenFault → Type 0 where
   NoToken : (at : ℕ) → IsUnexpected text tokens (Err (token_faults.Unexpected at))
-  NoEnd : (next : TextToken) → next.kind ≡ token_kinds.End → ((p : List Stmt) → ¬ AreStatements tokens p) → IsUnexpected text tokens (Ok next)
-  NoSentence : (next : TextToken) (t : Token) → language.token_of next (bytes_of text next) ≡ Some t → ¬ BeginsSentence (tokens ++ t ∷ []) → IsUnexpected text tokens (Ok next)
+  NoEnd : (next : TextToken) → next.kind ≡ token_kinds.End → ((p : List Stmt) → ¬ AreStatements tokens p)
+      → IsUnexpected text tokens (Ok next)
+  NoSentence : (next : TextToken) (t : Token) → language.token_of next (bytes_of text next) ≡ Some t
+      → ¬ BeginsSentence (tokens ++ t ∷ []) → IsUnexpected text tokens (Ok next)
 
 -- a byte above 127 stands there
 abbrev pub IsNotAscii : Result TextToken TokenFault → Type 0
@@ -165,7 +187,8 @@ Holds text tokens next Unexpected = IsUnexpected text tokens next
 Holds text tokens next TooManyOpen =
     (t : Token) × (seen text next ≡ Some t) × (depth : ℕ) × Opens text depth tokens t × (most_height ≤ depth)
 Holds text tokens next TooManyStatements =
-    (t : Token) × (seen text next ≡ Some t) × BeginsStatement t.word × (p : List Stmt) × AreStatements tokens p × (most_statements ≤ length p)
+    (t : Token) × (seen text next ≡ Some t) × BeginsStatement t.word × (p : List Stmt) × AreStatements tokens p
+    × (most_statements ≤ length p)
 Holds text tokens next TooManyNodes =
     (t : Token) × (seen text next ≡ Some t) × (count : ℕ) × IsNode count tokens t × (most_nodes ≤ count)
 

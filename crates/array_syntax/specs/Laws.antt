@@ -6,4 +6,5 @@ use Rattle.array_syntax.specs.Grammar.{AreStatements}
 
 -- tokens are one list of statements at most
 abbrev pub HasOneReading : Type 0
-HasOneReading = (tokens : List Token) (one other : List Stmt) → AreStatements tokens one → AreStatements tokens other → one ≡ other
+HasOneReading =
+    (tokens : List Token) (one other : List Stmt) → AreStatements tokens one → AreStatements tokens other → one ≡ other

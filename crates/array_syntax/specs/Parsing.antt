@@ -58,7 +58,8 @@ pub record HasRead (text : List ℕ) (from : ℕ) (s : State) (count : ℕ) : Ty
   pub clean : IsClean text tokens s
 
 -- the same, where what stands next is known, and a `-` at the end is judged
-pub record IsReady (text : List ℕ) (from : ℕ) (s : State) (count : ℕ) (next : Result TextToken TokenFault) : Type 0 where
+pub record IsReady (text : List ℕ) (from : ℕ) (s : State) (count : ℕ)
+    (next : Result TextToken TokenFault) : Type 0 where
   pub has : HasRead text from s count
   pub stands : StandsFrom text from next
   pub settled : Settled s next None

@@ -156,14 +156,18 @@ bare (Fold at op a) = Fold 0 op (bare a)
 
 -- two statements differ in places alone
 pub data SameApart : Stmt → Stmt → Type 0 where
-  Input : (name : List ℕ) (at place shape_at shape_place : ℕ) (elem : Elem) (rows cols : ℤ) → SameApart (stmts.Input name at elem rows cols shape_at) (stmts.Input name place elem rows cols shape_place)
-  Let : (name : List ℕ) (at place : ℕ) (value other : Expr) → bare (tree_of value) ≡ bare (tree_of other) → SameApart (stmts.Let name at value) (stmts.Let name place other)
-  Output : (name : List ℕ) (at place : ℕ) (value other : Expr) → bare (tree_of value) ≡ bare (tree_of other) → SameApart (stmts.Output name at value) (stmts.Output name place other)
+  Input : (name : List ℕ) (at place shape_at shape_place : ℕ) (elem : Elem) (rows cols : ℤ)
+      → SameApart (stmts.Input name at elem rows cols shape_at) (stmts.Input name place elem rows cols shape_place)
+  Let : (name : List ℕ) (at place : ℕ) (value other : Expr) → bare (tree_of value) ≡ bare (tree_of other)
+      → SameApart (stmts.Let name at value) (stmts.Let name place other)
+  Output : (name : List ℕ) (at place : ℕ) (value other : Expr) → bare (tree_of value) ≡ bare (tree_of other)
+      → SameApart (stmts.Output name at value) (stmts.Output name place other)
 
 -- two lists of statements do
 pub data AreSameApart : List Stmt → List Stmt → Type 0 where
   Nothing : AreSameApart [] []
-  More : (one other : Stmt) (ones others : List Stmt) → SameApart one other → AreSameApart ones others → AreSameApart (one ∷ ones) (other ∷ others)
+  More : (one other : Stmt) (ones others : List Stmt) → SameApart one other → AreSameApart ones others
+      → AreSameApart (one ∷ ones) (other ∷ others)
 
 -- the text denotes the program, apart from its places
 pub record DenotesApart (text : List ℕ) (program : Program) : Type 0 where

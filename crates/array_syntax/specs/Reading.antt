@@ -104,13 +104,15 @@ made None stack = Stuck
 -- a comma behind the last operand of a call that takes numbers
 abbrev pub mapped : ℕ → Callee → Earlier → Expr → List Frame → State
 mapped at callee earlier.Nothing e stack =
-    choose (nat_lt 0 (numbers callee)) (WantNumber (record { at = at; callee = callee; of = e; values = [] }) stack) Stuck
+    choose (nat_lt 0 (numbers callee))
+    (WantNumber (record { at = at; callee = callee; of = e; values = [] }) stack) Stuck
 mapped at callee _ e stack = Stuck
 
 -- a comma behind an operand of a call
 abbrev pub argued : ℕ → Callee → Earlier → Expr → List Frame → State
 argued at callee before e stack =
-    choose (nat_lt (count before + 1) (operands callee)) (Want (frames.Call at callee (followed before e) ∷ stack)) (mapped at callee before e stack)
+    choose (nat_lt (count before + 1) (operands callee))
+    (Want (frames.Call at callee (followed before e) ∷ stack)) (mapped at callee before e stack)
 
 -- a word that isn't a binary sign, behind an expression
 abbrev pub close : Word → Expr → List Frame → State
@@ -153,16 +155,19 @@ with_value call value = record { at = call.at; callee = call.callee; of = call.o
 -- where a call's number is wanted
 abbrev pub want_number : Word → ℕ → MapCall → List Frame → State
 want_number (words.Number n) at call stack = HaveNumber (with_value call (record { at = at; value = pos n })) stack
-want_number (words.Operator operators.Minus) at call stack = choose (takes_sign call.callee) (SignedNumber at call stack) Stuck
+want_number (words.Operator operators.Minus) at call stack =
+    choose (takes_sign call.callee) (SignedNumber at call stack) Stuck
 want_number _ at call stack = Stuck
 
 abbrev pub signed_number : Word → ℕ → MapCall → List Frame → State
-signed_number (words.Number n) at call stack = HaveNumber (with_value call (record { at = at; value = neg_ℤ (pos n) })) stack
+signed_number (words.Number n) at call stack =
+    HaveNumber (with_value call (record { at = at; value = neg_ℤ (pos n) })) stack
 signed_number _ at call stack = Stuck
 
 -- behind a call's number
 abbrev pub have_number : Word → MapCall → List Frame → State
-have_number words.Comma call stack = choose (nat_lt (length call.values) (numbers call.callee)) (WantNumber call stack) Stuck
+have_number words.Comma call stack =
+    choose (nat_lt (length call.values) (numbers call.callee)) (WantNumber call stack) Stuck
 have_number words.Close call stack = made (placed call.at (map_of call.callee call.of call.values)) stack
 have_number _ call stack = Stuck
 
@@ -177,10 +182,13 @@ input parts.AfterWord (words.Name name) at done = Input done (parts.AfterName na
 input (parts.AfterName name place) (words.Call (callees.Cast elem)) at done =
     Input done (parts.AfterType (record { name = name; at = place; elem = elem }))
 input (parts.AfterType heading) words.OpenSquare at done = Input done (parts.AfterOpen heading at)
-input (parts.AfterOpen heading shape_at) (words.Number rows) at done = Input done (parts.AfterRows heading shape_at rows)
+input (parts.AfterOpen heading shape_at) (words.Number rows) at done =
+    Input done (parts.AfterRows heading shape_at rows)
 input (parts.AfterRows heading shape_at rows) words.Comma at done = Input done (parts.AfterComma heading shape_at rows)
-input (parts.AfterComma heading shape_at rows) (words.Number cols) at done = Input done (parts.AfterCols heading shape_at rows cols)
-input (parts.AfterCols heading shape_at rows cols) words.CloseSquare at done = Input done (parts.AfterClose heading shape_at rows cols)
+input (parts.AfterComma heading shape_at rows) (words.Number cols) at done =
+    Input done (parts.AfterCols heading shape_at rows cols)
+input (parts.AfterCols heading shape_at rows cols) words.CloseSquare at done =
+    Input done (parts.AfterClose heading shape_at rows cols)
 input (parts.AfterClose heading shape_at rows cols) words.Semicolon at done =
     Begin (done ++ stmts.Input heading.name heading.at heading.elem (pos rows) (pos cols) shape_at ∷ [])
 input _ _ at done = Stuck

@@ -141,14 +141,17 @@ Admitted s after (Err refusal) = Judged s (Some refusal)
 -- what a token leads to where it is taken, or why it isn't
 abbrev pub Advanced : State → Token → (Phase → State) → Result Phase Refusal → Type 0
 Advanced s t after (Ok next) =
-    (¬ IsTooHigh (last_of t.word) s) × (after next ≡ step s t) × (step s t ≢ Stuck) × (¬ IsDeep (step s t)) × (¬ IsCrowded (step s t)) × (¬ IsFull (step s t))
+    (¬ IsTooHigh (last_of t.word) s) × (after next ≡ step s t) × (step s t ≢ Stuck) × (¬ IsDeep (step s t))
+    × (¬ IsCrowded (step s t)) × (¬ IsFull (step s t))
 Advanced s t after (Err refusals.TooHigh) = IsTooHigh (last_of t.word) s
 Advanced s t after (Err refusals.Unexpected) = (¬ IsTooHigh (last_of t.word) s) × (step s t ≡ Stuck)
-Advanced s t after (Err refusals.TooManyOpen) = (¬ IsTooHigh (last_of t.word) s) × (step s t ≢ Stuck) × IsDeep (step s t)
+Advanced s t after (Err refusals.TooManyOpen) =
+    (¬ IsTooHigh (last_of t.word) s) × (step s t ≢ Stuck) × IsDeep (step s t)
 Advanced s t after (Err refusals.TooManyStatements) =
     (¬ IsTooHigh (last_of t.word) s) × (step s t ≢ Stuck) × (¬ IsDeep (step s t)) × IsCrowded (step s t)
 Advanced s t after (Err refusals.TooManyNodes) =
-    (¬ IsTooHigh (last_of t.word) s) × (step s t ≢ Stuck) × (¬ IsDeep (step s t)) × (¬ IsCrowded (step s t)) × IsFull (step s t)
+    (¬ IsTooHigh (last_of t.word) s) × (step s t ≢ Stuck) × (¬ IsDeep (step s t)) × (¬ IsCrowded (step s t))
+    × IsFull (step s t)
 Advanced s t after (Err refusals.Memory) = Unit {0}
 
 -- what there is where no token stands: the program, or why there is none

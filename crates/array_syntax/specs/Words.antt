@@ -91,7 +91,8 @@ name_word None bytes = if nat_le (length bytes) most_name_bytes then Some (words
 -- what a token says, if it isn't too long or too large
 abbrev pub word_of : TokenKind → List ℕ → Option Word
 word_of token_kinds.Name bytes = name_word (look_up keywords bytes) bytes
-word_of token_kinds.Number bytes = if nat_le (value_of bytes) number_limit then Some (words.Number (value_of bytes)) else None
+word_of token_kinds.Number bytes =
+    if nat_le (value_of bytes) number_limit then Some (words.Number (value_of bytes)) else None
 word_of token_kinds.Sign bytes = look_up sign_words bytes
 word_of _ bytes = None
 
@@ -102,4 +103,8 @@ passes _ = false
 
 -- the tokens of the language
 abbrev pub language : Language Token
-language = record { passes = passes; token_of = λ (token : TextToken) bytes. option_map (λ word. record { at = token.start; word = word }) (word_of token.kind bytes) }
+language = record {
+  passes = passes;
+  token_of = λ (token : TextToken) bytes. option_map (λ word. record { at = token.start; word = word })
+      (word_of token.kind bytes);
+}

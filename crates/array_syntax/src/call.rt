@@ -8,7 +8,7 @@ use crate::word::Callee;
 use sqlite_items::Items;
 
 /// The operands of a call before the one that is read.
-#[derive(Debug, Drop)]
+#[derive(Drop)]
 pub enum Earlier {
     Nothing,
     One(Node),
@@ -16,14 +16,14 @@ pub enum Earlier {
 }
 
 /// A number among a call's arguments, and where it or its sign begins, in bytes from 0.
-#[derive(Clone, Copy, Debug, PartialEq, Eq)]
+#[derive(Clone, Copy)]
 pub struct Number {
     pub at: u32,
     pub value: i64,
 }
 
 /// A call whose operand is whole, with its numbers so far.
-#[derive(Debug, Drop)]
+#[derive(Drop)]
 pub struct MapCall {
     pub at: u32,
     pub callee: Callee,

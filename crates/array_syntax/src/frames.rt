@@ -15,14 +15,14 @@ use std::marker::Model;
 use ven_base::Name;
 
 /// A prefix sign.
-#[derive(Clone, Copy, Debug, PartialEq, Eq)]
+#[derive(Clone, Copy)]
 pub enum Sign {
     Negate,
     Flip,
 }
 
 /// An open item: what stands before an expression that isn't whole.
-#[derive(Debug, Drop)]
+#[derive(Drop)]
 pub enum Frame {
     /// The statements before, and the statement up to its `=`.
     Body(Items<Stmt>, Binding, Name, u32),
@@ -35,7 +35,7 @@ pub enum Frame {
 }
 
 /// The open items, the innermost last, and how many of them are brackets and prefix signs.
-#[derive(Debug, Drop)]
+#[derive(Drop)]
 pub struct Frames {
     items: Vec<Frame>,
     depth: usize,

@@ -1,12 +1,12 @@
 //! The array language's text, read and printed (docs/LANGUAGE.md, "Programs").
 //!
-//! `parse` gives the program that a text denotes, exactly where the text has no fault; else it answers the first fault, by
-//! its place and then by its rank. What it gives keeps the language's limits. `print` gives a text that denotes a program,
-//! apart from its places. `one_reading` is the law that tokens are one list of statements at most.
+//! `parse` gives the program that a text denotes, exactly where the text has no fault; else it answers the first fault,
+//! by its place and then by its rank. What it gives keeps the language's limits. `print` gives a text that denotes a
+//! program, apart from its places. `one_reading` is the law that tokens are one list of statements at most.
 //!
-//! The definitions in `specs/` say what a text is: `Table` has the binary signs with their levels and the functions with
-//! their arguments, `Words` what tokens say, `Grammar` which tokens are which statements, `Limits` the limits, `Faults` the
-//! faults with their order, and `Printed` the printed text. The others serve the code alone.
+//! The definitions in `specs/` say what a text is: `Table` has the binary signs with their levels and the functions
+//! with their arguments, `Words` what tokens say, `Grammar` which tokens are which statements, `Limits` the limits,
+//! `Faults` the faults with their order, and `Printed` the printed text. The others serve the code alone.
 //!
 //! A caller reads a program, and prints it:
 //!

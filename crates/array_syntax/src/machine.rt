@@ -17,7 +17,7 @@ use std::alloc::{AllocError, Global};
 use ven_base::{Elem, Name, Op1};
 
 /// An input's name, its place and its element type.
-#[derive(Clone, Copy, Debug)]
+#[derive(Clone, Copy)]
 pub struct Heading {
     pub name: Name,
     pub at: u32,
@@ -25,7 +25,7 @@ pub struct Heading {
 }
 
 /// How far an input has been read. The place is that of its `[`; the numbers are its rows and columns.
-#[derive(Clone, Copy, Debug)]
+#[derive(Clone, Copy)]
 pub enum Part {
     AfterWord,
     AfterName(Name, u32),
@@ -38,7 +38,7 @@ pub enum Part {
 }
 
 /// What has just been read.
-#[derive(Debug, Drop)]
+#[derive(Drop)]
 pub enum Phase {
     Begin(Items<Stmt>),
     Input(Items<Stmt>, Part),
@@ -55,7 +55,7 @@ pub enum Phase {
 }
 
 /// Why a token isn't taken.
-#[derive(Clone, Copy, Debug, PartialEq, Eq)]
+#[derive(Clone, Copy)]
 pub enum Refusal {
     TooHigh,
     Unexpected,

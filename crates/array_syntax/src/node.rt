@@ -13,7 +13,7 @@ use std::marker::Model;
 use ven_base::{Elem, Fold, Name, Op1, Op2};
 
 /// The indices that a section takes of one side: the first, how many, and the step.
-#[derive(Clone, Copy, Debug)]
+#[derive(Clone, Copy)]
 pub struct Steps {
     pub first: i64,
     pub count: i64,
@@ -21,7 +21,6 @@ pub struct Steps {
 }
 
 /// An expression with its height, which contracts see as the expression.
-#[derive(Debug, Drop)]
 pub struct Node {
     expr: Expr,
     height: u8,
@@ -41,6 +40,15 @@ impl Model for Node {
     ghost view = { λ n. n.expr };
 
     ghost invariant = { λ n. n.height ≡ min (height_of (tree_of n.expr)) 255 };
+}
+
+impl Drop for Node {
+    fn drop(self) {
+        let Node {
+            expr: _expr,
+            height: _,
+        } = self;
+    }
 }
 
 impl Node {
@@ -266,7 +274,8 @@ impl Node {
     pub fn into_expr(self) -> Expr
         ensures { result ≡ self }
     {
-        self.expr
+        let Node { expr, height: _ } = self;
+        expr
     }
 
     /// Whether the expression is higher than is allowed.

@@ -21,7 +21,7 @@ use std::alloc::Global;
 use ven_io::{Token as TextToken, TokenFault, TokenKind};
 
 /// What has been read: up to the place `from`, with so many nodes.
-#[derive(Debug, Drop)]
+#[derive(Drop)]
 pub struct Parsing {
     pub phase: Phase,
     pub stack: Frames,
@@ -30,7 +30,7 @@ pub struct Parsing {
 }
 
 /// What a turn gives.
-#[derive(Debug, Drop)]
+#[derive(Drop)]
 pub enum Turn {
     More(Parsing),
     Done(Program),
@@ -331,7 +331,8 @@ fn take(alloc: Global, text: &[u8], parsing: Parsing, raw: TextToken) -> Result<
     requires ready { IsReady text.now parsing.from (state_of parsing.phase parsing.stack) parsing.nodes (Ok raw) }
     requires some { raw.kind ≢ TokenKind.End }
     requires short { length text.now < 2 ^ 31 }
-    ensures { MatchResult result (λ next. Turned text.now parsing.from (Turn.More next)) (λ fault. IsAnswered text.now fault) }
+    ensures { MatchResult result (λ next. Turned text.now parsing.from (Turn.More next))
+        (λ fault. IsAnswered text.now fault) }
 {
     match word_of(raw.kind, &text[raw.start as usize..raw.end as usize]) {
         Some(word) => take_word(alloc, parsing, raw, word),

@@ -194,7 +194,8 @@ fn print_two(text: &mut Vec<u8>, op: Op2, a: &Expr, b: &Expr) -> Result<(), Allo
 #[cycle(printing)]
 fn print_select(text: &mut Vec<u8>, c: &Expr, a: &Expr, b: &Expr) -> Result<(), AllocError>
     requires { IsWritable (tree_of c.now) × IsWritable (tree_of a.now) × IsWritable (tree_of b.now) }
-    ensures { OnOk result (text.new.items ≡ text.old.items ++ select_text (text_of c.now) (text_of a.now) (text_of b.now)) }
+    ensures { OnOk result
+        (text.new.items ≡ text.old.items ++ select_text (text_of c.now) (text_of a.now) (text_of b.now)) }
 {
     text.extend_from_slice(b"select(")?;
     print_expr(text, c)?;

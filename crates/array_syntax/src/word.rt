@@ -3,7 +3,7 @@
 use ven_base::{Elem, Fold, Name, Op2};
 
 /// A binary sign.
-#[derive(Clone, Copy, Debug, PartialEq, Eq)]
+#[derive(Clone, Copy)]
 pub enum Operator {
     Times,
     Plus,
@@ -22,7 +22,7 @@ pub enum Operator {
 }
 
 /// A function: a type, which casts, or a word that the language keeps for one.
-#[derive(Clone, Copy, Debug, PartialEq, Eq)]
+#[derive(Clone, Copy)]
 pub enum Callee {
     Cast(Elem),
     Abs,
@@ -41,14 +41,14 @@ pub enum Callee {
 }
 
 /// What a statement with an expression does with its name.
-#[derive(Clone, Copy, Debug, PartialEq, Eq)]
+#[derive(Clone, Copy)]
 pub enum Binding {
     Let,
     Output,
 }
 
 /// What a token says.
-#[derive(Clone, Copy, Debug, PartialEq)]
+#[derive(Clone, Copy)]
 pub enum Word {
     Name(Name),
     Number(u32),
@@ -68,7 +68,7 @@ pub enum Word {
 }
 
 /// A token: what it says, and where it begins, in bytes from 0.
-#[derive(Clone, Copy, Debug, PartialEq)]
+#[derive(Clone, Copy)]
 pub struct Token {
     pub at: u32,
     pub word: Word,

@@ -1,7 +1,7 @@
 use Rattle.std.proofs.Common.{◌∙◌, ap, arith}
 use Rattle.array_syntax.specs.Reading.{reduce, reach_of}
 use Rattle.array_syntax.proofs.Opening.{reduced_depth}
-use Rattle.array_syntax.proofs.TooHigh.{behind_high, sign_stepped, plain_stepped}
+use Rattle.array_syntax.proofs.TooHigh.{behind_high, sign_stepped}
 use Rattle.array_syntax.proofs.machine.behind.Goals as goal
 
 pub returns-then-is_too_high : goal.returns-then-is_too_high
