@@ -1,0 +1,13 @@
+pub mod Splitting
+pub mod Following
+pub mod Goodness
+pub mod Ahead
+pub mod Texts
+pub mod Answering
+pub mod Settled
+pub mod Functions
+pub mod Vocabulary
+pub mod Rows
+pub mod Fittings
+pub mod LargeNumbers
+pub mod Spelled

@@ -1,0 +1,9 @@
+pub mod Words
+pub mod Grammar
+pub mod Faults
+pub mod Fitting
+pub mod Matching
+pub mod Output
+pub mod Reading
+pub mod Steps
+pub mod Laws
