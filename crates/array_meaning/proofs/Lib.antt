@@ -1,0 +1,4 @@
+pub mod Loops
+pub mod Values
+pub mod Statements
+pub mod Samples

@@ -1,0 +1,5 @@
+pub mod Operand
+pub mod Sources
+pub mod Rows
+pub mod Store
+pub mod Samples
