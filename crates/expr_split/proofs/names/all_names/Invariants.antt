@@ -1,0 +1,7 @@
+use Rattle.std.proofs.Common.{◌≡◌, take}
+use Rattle.shape_check.specs.Occurrences.{all_names}
+use Rattle.shape_check.specs.Checked.{program_of}
+use Rattle.expr_split.proofs.names.all_names.Given as goal
+
+abbrev pub invariant-loop-stmt : goal.invariant-loop-stmt
+invariant-loop-stmt l = l.names.items ≡ all_names (take l.stmt-index (program_of l.stmts))

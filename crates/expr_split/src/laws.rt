@@ -1,0 +1,25 @@
+//! Laws of splits, each the contract of a function that does nothing. A caller of the function may use them.
+ghost use Rattle.expr_split.specs.Laws.{KeepsMeaning, MakesArraysInOrder, SplitsAreOne, SplitsAreSound, BoundsAreLawful, NeedsAreSome, TreesAreFew, SplitsAreSmall};
+
+/// Done in order on whole arrays, the passes of a program's split leave each output's meaning.
+pub fn meaning_law()
+    ensures { KeepsMeaning }
+{}
+
+/// A program has one split. That of every checked program is sound, and its passes make one array after another behind the
+/// inputs.
+pub fn split_laws()
+    ensures one { SplitsAreOne }
+    ensures sound { SplitsAreSound }
+    ensures in_order { MakesArraysInOrder }
+{}
+
+/// The bound of every checked program is at most 1,099,511,627,776 steps, and its need at least 5 bytes; its trees have
+/// together at most four times its nodes, so at most 16,384; and it has at most 8,192 passes, each with at most 8,192
+/// leaves and as many nodes.
+pub fn size_laws()
+    ensures bounds { BoundsAreLawful }
+    ensures needs { NeedsAreSome }
+    ensures trees { TreesAreFew }
+    ensures small { SplitsAreSmall }
+{}
