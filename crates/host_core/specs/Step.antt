@@ -35,8 +35,8 @@ host_after waiting instrs host = if may_go_on waiting (deed instrs host) then ne
 -- the tag that is waited for
 abbrev pub wanted_of : Issue → Option ℕ
 wanted_of (TWait tag) = Some tag
-wanted_of issue = None
+wanted_of _ = None
 
 abbrev pub wanted_by : Deed → Option ℕ
 wanted_by (Passes issue) = wanted_of issue
-wanted_by deed = None
+wanted_by _ = None

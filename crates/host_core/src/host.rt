@@ -1,5 +1,6 @@
 //! The host.
 ghost use Rattle.std.specs.Prelude.{◌≡◌, ◌<◌, length};
+ghost use Rattle.venice_isa.specs.Instr.{IsRegister};
 ghost use Rattle.venice_isa.specs.Host.{start, deed};
 ghost use Rattle.venice_isa.specs.HostState.{host_of};
 ghost use Rattle.host_core.specs.Step.{step_of, host_after, wanted_by};
@@ -39,6 +40,14 @@ impl Host {
         ensures { result ≡ self.now.place }
     {
         self.state.place
+    }
+
+    /// A register, whose number is below 32.
+    pub fn register(&self, number: u8) -> u32
+        requires { IsRegister number }
+        ensures { result ≡ (host_of self.now).register number }
+    {
+        self.state.register(number)
     }
 
     /// What the next step would be, where so many works are unfinished. Nothing changes. `Issued` has the work that is

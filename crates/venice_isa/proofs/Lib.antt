@@ -15,3 +15,7 @@ pub mod HostSteps
 pub mod KindBytes
 pub mod Encodings
 pub mod Footprints
+pub mod Decided
+pub mod TestsRight
+pub mod Meetings
+pub mod Conflicts

@@ -46,7 +46,7 @@ elements_apart region rows_apart p r j r' j' at at' =
     (same_row, omega arith)
 
 -- a fact that is decided at each number is found below a bound, or stands at none
-some_or_none : (P : ℕ → Type 0) → ((k : ℕ) → P k ⊎ (¬ P k)) → (n : ℕ) → ((k : ℕ) × P k × (k < n)) ⊎ ((k : ℕ) → k < n → ¬ P k)
+pub some_or_none : (P : ℕ → Type 0) → ((k : ℕ) → P k ⊎ (¬ P k)) → (n : ℕ) → ((k : ℕ) × P k × (k < n)) ⊎ ((k : ℕ) → k < n → ¬ P k)
 some_or_none P decided zero = inr (λ k below at_k. absurd (omega arith))
 some_or_none P decided (suc n) =
     elim (some_or_none P decided n) [

@@ -1,18 +1,19 @@
 -- Laws of the machine's work, each the contract of a public function.
-use Rattle.std.specs.Prelude.{◌≡◌, ℕ, ◌<◌, ◌^◌, ℤ, false, List, length, All}
+use Rattle.std.specs.Prelude.{◌≡◌, ◌↔◌, ℕ, ◌<◌, ◌^◌, ℤ, false, IsTrue, List, length, All}
 use Rattle.ven_base.specs.declared.elem.Elem.{Elem}
 use Rattle.ven_base.specs.Elem.{size_of, IsElement}
 use Rattle.venice_isa.specs.declared.work.VecWork.{VecWork}
 use Rattle.venice_isa.specs.declared.work.DmaWork.{DmaWork}
 use Rattle.venice_isa.specs.declared.issue.Issue.TheVariants.{Vector, Read, Write}
 use Rattle.ven_base.specs.Cell.{Cell}
-use Rattle.ven_base.specs.Store.{Store, in_cells, store_size, AgreeOn}
+use Rattle.ven_base.specs.Store.{Store, Size, in_cells, store_size, AgreeOn}
 use Rattle.ven_base.specs.Job.{Job, IsReady, KeepsToFootprint}
 use Rattle.venice_isa.specs.Cell.{cell_at, clear, byte_of}
 use Rattle.venice_isa.specs.declared.region.Region.{Region}
 use Rattle.venice_isa.specs.Region.{HasRowsApart, HasElementsApart, LiesBelow}
 use Rattle.venice_isa.specs.Element.{bytes_of, number_of}
-use Rattle.venice_isa.specs.Footprint.{Reads, Writes, HasFootprint, cells_of, memory_of}
+use Rattle.venice_isa.specs.Footprint.{Reads, Writes, HasFootprint, Conflicts, cells_of, memory_of}
+use Rattle.venice_isa.specs.Tests.{is_in_range, are_in_conflict}
 use Rattle.venice_isa.specs.Whole.{IsWhole, IsSimple}
 use Rattle.venice_isa.specs.declared.issue.Issue.{Issue}
 use Rattle.venice_isa.specs.Beat.{Progress, after_all_beats, course_of}
@@ -94,3 +95,8 @@ NextBeatKeepsToFootprint =
     → IsReady (course_of lanes) Reads Writes job (store_size first)
     → IsReady (course_of lanes) Reads Writes job (store_size second)
     → AgreeOn (Reads job.work) first second → KeepsToFootprint (course_of lanes) Writes job first second
+
+-- the tests of an issue answer true exactly where the issue is in range, and where two conflict
+pub record TestsDecide : Type 0 where
+  pub range : (size : Size) (issue : Issue) → IsTrue (is_in_range size issue) ↔ HasFootprint size issue
+  pub conflict : (first second : Issue) → IsTrue (are_in_conflict first second) ↔ Conflicts first second

@@ -9,6 +9,7 @@ pub mod Whole
 pub mod Copy
 pub mod Beat
 pub mod Does
+pub mod Tests
 pub mod Laws
 pub mod Walk
 pub mod Instr
@@ -18,3 +19,6 @@ pub mod Decoding
 pub mod Code
 pub mod Host
 pub mod HostState
+pub mod Units
+pub mod Flight
+pub mod Meeting

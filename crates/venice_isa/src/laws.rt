@@ -1,6 +1,6 @@
 //! The laws of the machine's work (docs/MACHINE.md), each as a function without arguments whose contract is the law.
 
-ghost use Rattle.venice_isa.specs.Laws.{RowsApartKeepElementsApart, WholeWritesItsFootprint, WholeReadsItsFootprint, WholeIsDetermined, ReadCopiesItsRows, WriteCopiesItsRows, BytesSpellTheirNumber, NumbersHaveOneSpelling, BeatsAreTheWhole, BeatsAreTheCopy, NextBeatKeepsToFootprint};
+ghost use Rattle.venice_isa.specs.Laws.{RowsApartKeepElementsApart, WholeWritesItsFootprint, WholeReadsItsFootprint, WholeIsDetermined, ReadCopiesItsRows, WriteCopiesItsRows, BytesSpellTheirNumber, NumbersHaveOneSpelling, BeatsAreTheWhole, BeatsAreTheCopy, NextBeatKeepsToFootprint, TestsDecide};
 
 /// Where no row of elements reaches into the next, every byte is in at most one element.
 pub fn rows_apart_keep_elements_apart()
@@ -62,6 +62,12 @@ pub fn next_beat_keeps_to_footprint()
     ensures { NextBeatKeepsToFootprint }
 {}
 
+/// The machine's tests of an issue, as truth values, answer true exactly where every place of its footprint is there,
+/// and exactly where two issues conflict.
+pub fn tests_decide()
+    ensures { TestsDecide }
+{}
+
 #[cfg(test)]
 mod tests {
     use super::*;
@@ -79,5 +85,6 @@ mod tests {
         beats_are_the_whole();
         beats_are_the_copy();
         next_beat_keeps_to_footprint();
+        tests_decide();
     }
 }

@@ -5,7 +5,9 @@
 //! `Element` how bytes spell numbers, `Answer` what an operation answers, `Footprint` which bytes a
 //! work reads and writes, `Whole` what a vector instruction does as one simultaneous map, `Copy`
 //! what a transfer does, `Beat` how both go beat by beat, and `Does` what a list of issues does, one
-//! after another. The functions of `laws` say what is proved of them.
+//! after another. `Units` says whose work an issue is, `Tests` what is asked of it before it starts,
+//! and `Flight` which works of a list may be in flight together. The functions of `laws` say what is
+//! proved of them, and `conflict` decides whether two works conflict.
 #![tactic(auto)]
 
 mod answer;
@@ -18,6 +20,7 @@ mod issue;
 mod issue_list;
 mod kind;
 mod laws;
+mod meeting;
 mod op;
 mod region;
 mod walk;
@@ -34,9 +37,10 @@ pub use kind::VecKind;
 pub use laws::{
     beats_are_the_copy, beats_are_the_whole, bytes_spell_their_number,
     next_beat_keeps_to_footprint, numbers_have_one_spelling, read_copies_its_rows,
-    rows_apart_keep_elements_apart, whole_is_determined, whole_reads_its_footprint,
+    rows_apart_keep_elements_apart, tests_decide, whole_is_determined, whole_reads_its_footprint,
     whole_writes_its_footprint, write_copies_its_rows,
 };
+pub use meeting::conflict;
 pub use op::VecOp;
 pub use region::Region;
 pub use walk::Walk;

@@ -102,7 +102,7 @@ impl VecWork {
     }
 
     /// Whether B's elements stand in cells: whether B is used and is no scalar.
-    fn has_b_in_cells(&self) -> bool
+    pub(crate) fn has_b_in_cells(&self) -> bool
         ensures { IsTrue result ↔ (IsTrue (uses_b self.now.kind.op) × IsFalse self.now.kind.b_scalar) }
     {
         self.kind.op.uses_b() && !self.kind.b_scalar
