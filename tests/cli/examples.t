@@ -1,4 +1,4 @@
-The examples, each with the least scratchpad that it runs in.
+The examples: additions, each with the least scratchpad that it runs in.
 
   $ venice() { "$TESTDIR/../../venice" "$@"; }
   $ cd "$TESTDIR/../../examples"
@@ -11,3 +11,52 @@ The examples, each with the least scratchpad that it runs in.
   $ venice run brighten.ven brighten.arrays brighten.image 4 112
   brighter_pixels u8[1,16]
   20 28 36 44 52 60 68 76 84 92 100 108 116 124 132 140
+
+Programs of the whole language.
+
+  $ venice eval blur.ven blur.arrays
+  y u8[5,6]
+  0 10 30 30 10 0
+  0 30 90 90 30 0
+  0 30 90 90 30 0
+  0 10 30 30 10 0
+  0 0 0 0 0 0
+  $ venice eval edges.ven edges.arrays
+  y u8[4,6]
+  0 0 80 0 0 80
+  0 0 80 80 80 160
+  0 0 0 0 0 0
+  0 0 0 80 80 80
+  $ venice eval threshold.ven threshold.arrays
+  y u8[3,4]
+  0 0 255 255
+  255 0 255 0
+  0 0 0 0
+  $ venice eval histogram.ven histogram.arrays
+  low u32[1,1]
+  5
+  middle u32[1,1]
+  5
+  high u32[1,1]
+  6
+  $ venice eval dot.ven dot.arrays
+  y i32[1,1]
+  999970
+  $ venice eval matvec.ven matvec.arrays
+  y i32[3,1]
+  7
+  34
+  56
+  $ venice eval light.ven light.arrays
+  brighter u8[2,5]
+  60 110 160 210 255
+  119 120 121 255 255
+  darker u8[2,5]
+  0 0 40 90 140
+  0 0 1 135 136
+  wrapped u8[2,5]
+  60 110 160 210 4
+  119 120 121 255 0
+  $ venice eval fir.ven fir.arrays
+  y i16[1,10]
+  3 2 -1 0 0 15 25 20 20 20

@@ -27,16 +27,31 @@ A folder is no file.
   error: file
   [8]
 
+The other commands.
+
+  $ venice eval no.ven add.arrays
+  error: file
+  [8]
+  $ venice eval add.ven folder
+  error: file
+  [8]
+  $ venice check folder 7
+  error: file
+  [8]
+  $ venice explain ''
+  error: file
+  [8]
+
 A device that gives its bytes piece by piece is read as a file is, up to the limit of a text and one byte more.
 
   $ cat add.arrays | venice run add.ven /dev/stdin add.image 4 28
   y u8[1,2]
   4 6
   $ venice run /dev/zero add.arrays add.image 4 28
-  error: program form
+  error: program too long
   [3]
   $ venice run /dev/null add.arrays add.image 4 28
-  error: program form
+  error: program no output
   [3]
 
 No file is written.

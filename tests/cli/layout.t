@@ -39,7 +39,7 @@ Another byte is no blank: a form feed begins no token, but may stand in a commen
 
   $ printf 'input a u8[1,3];\f input b u8[1,3]; output y = a + b;' > feed.ven
   $ venice run feed.ven add.arrays add.image 4 21
-  error: program form
+  error: program unexpected at 16
   [3]
   $ printf 'input a u8[1,3]; # \f\ninput b u8[1,3]; output y = a + b;' > feed.ven
   $ venice run feed.ven add.arrays add.image 4 21

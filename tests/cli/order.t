@@ -1,5 +1,5 @@
-Of several refusals the first in this order is the answer: the words; the load of PROGRAM; its form; the scratchpad;
-the load of INPUTS; their form.
+Of several refusals of `run` the first in this order is the answer: the words; the load of PROGRAM; its text and rules; its form;
+the scratchpad; the load of INPUTS; their text; whether they fit.
 
   $ venice() { "$TESTDIR/../../venice" "$@"; }
   $ echo 'input a u8[1,4]; input b u8[1,4]; output y = a + b;' > add.ven
@@ -19,7 +19,12 @@ PROGRAM's load before all that follows.
   error: file
   [8]
 
-The program's form before the scratchpad and INPUTS.
+The program's text and rules, then its form, before the scratchpad and INPUTS.
+
+  $ echo 'input a u8[1,4]; input b u8[1,4]; output y = a - c;' > worse.ven
+  $ venice run worse.ven no.arrays add.image 4 27
+  error: program unknown at 49
+  [3]
 
   $ venice run bad.ven no.arrays add.image 4 27
   error: program form
@@ -46,7 +51,7 @@ INPUTS.
   error: file
   [8]
   $ venice run add.ven bad.arrays add.image 4 28
-  error: inputs form
+  error: inputs count b need 4 have 3
   [4]
   $ venice run add.ven add.arrays add.image 4 28
   y u8[1,4]

@@ -24,6 +24,29 @@ It is closed.
   $ venice >&-
   [9]
 
+So it is for the other commands, of whichever length their text is.
+
+  $ venice eval add.ven add.arrays > /dev/full
+  [9]
+  $ venice eval add.ven no.arrays > /dev/full
+  [9]
+  $ venice check add.ven 7 > /dev/full
+  [9]
+  $ venice check add.ven 6 > /dev/full
+  [9]
+  $ venice explain add.ven > /dev/full
+  [9]
+  $ venice explain no.ven >&-
+  [9]
+  $ echo 'input a u8[1,1]; output y = stretch(a, 1024, 1024);' > great.ven
+  $ echo 'a u8[1,1] 7' > great.arrays
+  $ venice eval great.ven great.arrays > /dev/full
+  [9]
+  $ { venice eval great.ven great.arrays; echo $? > status; } | head -n 1
+  y u8[1024,1024]
+  $ cat status
+  9
+
 Nothing is read from standard input.
 
   $ venice run add.ven add.arrays add.image 4 28 <&-

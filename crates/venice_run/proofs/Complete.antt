@@ -7,7 +7,7 @@ use Rattle.venice_run.specs.declared.ending.Ending.TheVariants.{Refused, Failed}
 use Rattle.venice_run.specs.declared.ending.Fault.TheVariants.{File, Memory}
 use Rattle.venice_run.specs.declared.refusal.Kind.TheVariants as kind
 use Rattle.venice_run.specs.declared.refusal.Refusal.{Refusal}
-use Rattle.venice_run.specs.declared.refusal.Refusal.TheVariants.{Usage, FileMissing, TooLong, Form, Scratchpad}
+use Rattle.venice_run.specs.declared.refusal.Refusal.TheVariants.{Usage, FileMissing, TooLong, Parse, Check, Form, Scratchpad, Arrays, Fit}
 use Rattle.venice_run.specs.Answer.{Answer, Save, status_with, answer_status}
 use Rattle.venice_run.specs.Commands.{answer_to}
 use Rattle.venice_run.specs.Laws.{NothingFails, NoneCounted, IsAnswered, IsRefused, IsComplete}
@@ -24,12 +24,12 @@ refusal_not_15 (TooLong kind.Inputs) e = cc
 refusal_not_15 (TooLong kind.Grants) e = cc
 refusal_not_15 (TooLong kind.Image) e = cc
 refusal_not_15 (TooLong kind.Text) e = cc
-refusal_not_15 (Form kind.Program) e = cc
-refusal_not_15 (Form kind.Inputs) e = cc
-refusal_not_15 (Form kind.Grants) e = cc
-refusal_not_15 (Form kind.Image) e = cc
-refusal_not_15 (Form kind.Text) e = cc
 refusal_not_15 (Scratchpad shortage) e = cc
+refusal_not_15 Form e = cc
+refusal_not_15 (Parse fault) e = cc
+refusal_not_15 (Check fault) e = cc
+refusal_not_15 (Arrays fault) e = cc
+refusal_not_15 (Fit fault) e = cc
 
 status_not_15 : (ending : Ending) → status_of ending ≡ 15 → ⊥
 status_not_15 (Refused refusal) e = refusal_not_15 refusal e
@@ -78,20 +78,20 @@ module _ {Content : Type 0} (behaviour : Content → Behaviour) (before after : 
       ]
 
   -- memory's line, or not even that
-  lacks : NothingFails behaviour before after → (said : Ending) → said ≡ Failed Memory → Says before.sink after.sink (status_of said) (line_of said ∷ []) status → status ≡ memory_status
-  lacks quiet said is says =
-      elim (whole before.sink after.sink (status_of said) (line_of said ∷ []) status quiet.put says) [
+  lacks : NothingFails behaviour before after → (message : Ending) → message ≡ Failed Memory → Says before.sink after.sink (status_of message) (line_of message ∷ []) status → status ≡ memory_status
+  lacks quiet message is says =
+      elim (whole before.sink after.sink (status_of message) (line_of message ∷ []) status quiet.put says) [
         | inl w ↦ w.0 ∙ ap status_of is
         | inr e ↦ e
       ]
 
   stopped : NothingFails behaviour before after → (ending : Ending) → answer_to (behaviour before.files.content) words (Err ending) → after.files.content ≡ before.files.content
-      → (said : Ending) → (said ≡ ending) ⊎ (said ≡ Failed Memory) → Says before.sink after.sink (status_of said) (line_of said ∷ []) status → IsComplete behaviour before after words status
-  stopped quiet ending comes kept said (inr is) says = inr (inr (lacks quiet said is says))
-  stopped quiet (Failed File) comes kept said (inl is) says = absurd (no_load quiet comes)
-  stopped quiet (Failed Memory) comes kept said (inl is) says = inr (inr (lacks quiet said is says))
-  stopped quiet (Refused refusal) comes kept said (inl is) says =
-      elim (whole before.sink after.sink (status_of said) (line_of said ∷ []) status quiet.put says) [
+      → (message : Ending) → (message ≡ ending) ⊎ (message ≡ Failed Memory) → Says before.sink after.sink (status_of message) (line_of message ∷ []) status → IsComplete behaviour before after words status
+  stopped quiet ending comes kept message (inr is) says = inr (inr (lacks quiet message is says))
+  stopped quiet (Failed File) comes kept message (inl is) says = absurd (no_load quiet comes)
+  stopped quiet (Failed Memory) comes kept message (inl is) says = inr (inr (lacks quiet message is says))
+  stopped quiet (Refused refusal) comes kept message (inl is) says =
+      elim (whole before.sink after.sink (status_of message) (line_of message ∷ []) status quiet.put says) [
         | inl w ↦ inr (inl (record {
           refusal = refusal;
           comes = comes;
@@ -110,14 +110,14 @@ module _ {Content : Type 0} (behaviour : Content → Behaviour) (before after : 
   by_outcome quiet outcome (FailsToSave answer comes failed is) says = absurd (no_save quiet answer.save failed)
   by_outcome quiet outcome (LacksMemory answer comes kept is) says =
       let s : SaysEnding before.sink after.sink (Failed Memory) status = subst (λ (o : Outcome). SaysOutcome before.sink after.sink o status) is says in
-      inr (inr (lacks quiet s.said (memory_either s.said s.is) s.says))
+      inr (inr (lacks quiet s.message (memory_either s.message s.is) s.says))
     where
-      memory_either : (said : Ending) → (said ≡ Failed Memory) ⊎ (said ≡ Failed Memory) → said ≡ Failed Memory
-      memory_either said (inl e) = e
-      memory_either said (inr e) = e
+      memory_either : (message : Ending) → (message ≡ Failed Memory) ⊎ (message ≡ Failed Memory) → message ≡ Failed Memory
+      memory_either message (inl e) = e
+      memory_either message (inr e) = e
   by_outcome quiet outcome (Stops ending comes kept is) says =
       let s : SaysEnding before.sink after.sink ending status = subst (λ (o : Outcome). SaysOutcome before.sink after.sink o status) is says in
-      stopped quiet ending comes kept s.said s.is s.says
+      stopped quiet ending comes kept s.message s.is s.says
 
   pub complete : Promise behaviour before after words status → NothingFails behaviour before after → IsComplete behaviour before after words status
   complete promise quiet = by_outcome quiet promise.outcome promise.comes promise.says
@@ -140,7 +140,7 @@ module _ {Content : Type 0} (behaviour : Content → Behaviour) (before after : 
 
   outcome_puts : ¬ before.sink.may_fail → (outcome : Outcome) → SaysOutcome before.sink after.sink outcome status → after.sink.failed_puts ≡ before.sink.failed_puts
   outcome_puts quiet (Done answer) says = uncounted before.sink after.sink (answer_status answer) (text_lines answer.text) status quiet says
-  outcome_puts quiet (Stopped ending) says = uncounted before.sink after.sink (status_of says.said) (line_of says.said ∷ []) status quiet says.says
+  outcome_puts quiet (Stopped ending) says = uncounted before.sink after.sink (status_of says.message) (line_of says.message ∷ []) status quiet says.says
   outcome_puts quiet NotSaved says = uncounted before.sink after.sink save_status (save_line ∷ []) status quiet says
 
   pub uncounted_all : Promise behaviour before after words status → NothingFails behaviour before after → NoneCounted behaviour before after
@@ -155,7 +155,7 @@ module _ {Content : Type 0} (behaviour : Content → Behaviour) (before after : 
   answered_not_15 answer says e = says_not_15 before.sink after.sink (answer_status answer) (text_lines answer.text) status says (answer_not_15 answer.stop) e
 
   stopped_not_15 : (ending : Ending) → SaysEnding before.sink after.sink ending status → status ≡ 15 → ⊥
-  stopped_not_15 ending says e = says_not_15 before.sink after.sink (status_of says.said) (line_of says.said ∷ []) status says.says (status_not_15 says.said) e
+  stopped_not_15 ending says e = says_not_15 before.sink after.sink (status_of says.message) (line_of says.message ∷ []) status says.says (status_not_15 says.message) e
 
   not_saved_not_15 : Says before.sink after.sink save_status (save_line ∷ []) status → status ≡ 15 → ⊥
   not_saved_not_15 says e = says_not_15 before.sink after.sink save_status (save_line ∷ []) status says (λ s. cc) e

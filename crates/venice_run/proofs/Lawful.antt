@@ -1,27 +1,67 @@
 -- Stages that come to one thing, and fail to load only where a load may fail.
 use Rattle.std.proofs.Common.{◌≡◌, ◌⊎◌, inl, inr, ℕ, ◌<◌, ◌≤◌, List, [], ◌∷◌, length, Option, Some, None, Result, Ok, Err, refl, sym, ap, subst, ◌∙◌, arith}
-use Rattle.std.specs.Prelude.{codes, decimal, map, take, drop, slice_get, ◌++◌}
-use Rattle.std.proofs.lemmas.List.{take_at, drop_at, length-map}
+use Rattle.std.specs.Prelude.{decimal}
 use Rattle.std.proofs.lemmas.Fmt.{decimal_injective}
+use Rattle.ven_base.specs.declared.entry.Entry.{Entry}
+use Rattle.ven_base.specs.Pairs.{Pairs}
 use Rattle.ven_io.specs.Files.{Behaviour}
-use Rattle.ven_io.specs.Lexemes.{Lexeme, Word, Number, Sign, IsLexed}
-use Rattle.ven_io.proofs.Lexed.{one_lexing_holds}
+use Rattle.array_file.specs.declared.fault.ArrayFault.{ArrayFault}
+use Rattle.array_file.specs.declared.fault.ArrayFault.TheVariants as array_fault
+use Rattle.array_file.specs.Faults as files_faults
+use Rattle.array_file.specs.Laws as array_laws
+use Rattle.array_syntax.specs.declared.fault.ParseFault.{ParseFault}
+use Rattle.array_syntax.specs.declared.fault.ParseFault.TheVariants as parse_fault
+use Rattle.array_syntax.specs.declared.program.Program.{Program}
+use Rattle.array_syntax.specs.declared.program.Stmt.{Stmt}
+use Rattle.array_syntax.specs.Faults as syntax
+use Rattle.array_syntax.specs.Laws as syntax_laws
+use Rattle.expr_split.specs.Laws.{SplitsAreOne}
+use Rattle.expr_split.specs.Places.{IsSplitOf}
+use Rattle.pass_plan.specs.Need.{need_of}
+use Rattle.pass_plan.specs.Sound.{Split}
+use Rattle.shape_check.specs.declared.fault.CheckFault.{CheckFault}
+use Rattle.shape_check.specs.declared.fault.CheckFault.TheVariants as check_fault
+use Rattle.shape_check.specs.Faults as rules
+use Rattle.shape_check.specs.Laws.{HasNoFault, HasOneTyping, HasOneFirstFault}
+use Rattle.shape_check.specs.Statement.{Statement}
 use Rattle.venice_run.specs.declared.ending.Ending.{Ending}
 use Rattle.venice_run.specs.declared.ending.Ending.TheVariants.{Refused, Failed}
 use Rattle.venice_run.specs.declared.ending.Fault.TheVariants.{File, Memory}
+use Rattle.venice_run.specs.declared.refusal.Kind.{Kind}
 use Rattle.venice_run.specs.declared.refusal.Refusal.{Refusal}
-use Rattle.venice_run.specs.declared.refusal.Refusal.TheVariants.{Usage, Scratchpad}
+use Rattle.venice_run.specs.declared.refusal.Refusal.TheVariants.{Usage, Scratchpad, Fit}
 use Rattle.venice_run.specs.declared.refusal.Shortage.{Shortage}
 use Rattle.venice_run.specs.declared.request.Request.{Request}
-use Rattle.venice_run.specs.declared.request.Request.TheVariants.{Run}
-use Rattle.venice_run.specs.Addition.{Addition, Operands, AreValues, program_lexemes, array_lexemes, operand_lexemes, text_limit, need_of}
+use Rattle.venice_run.specs.declared.request.Request.TheVariants.{Run, Eval, Check, Explain}
+use Rattle.venice_run.specs.Addition.{Addition, addition_program, addition_need}
 use Rattle.venice_run.specs.Answer.{Answer, prints}
-use Rattle.venice_run.specs.Commands.{stages_of, spelled, answer_to}
+use Rattle.venice_run.specs.Check.{check}
+use Rattle.venice_run.specs.Commands.{stages_of, answer_to}
+use Rattle.venice_run.specs.Endings.{parse_ending, check_ending, array_ending}
+use Rattle.venice_run.specs.Eval.{eval}
+use Rattle.venice_run.specs.Explain.{explain}
+use Rattle.venice_run.specs.Inputs.{Reads, input_table, fitting, inputs_in, inputs_under}
 use Rattle.venice_run.specs.Laws.{ShowsOne, IsPlain}
-use Rattle.venice_run.specs.Reading.{shown}
-use Rattle.venice_run.specs.Run.{addition_in, operands_in, addition_of_text, operands_of_text, addition_of, operands_of, has_room, sum_text, run}
-use Rattle.venice_run.specs.Stage.{Then, Ends, Goes, refuses}
+use Rattle.venice_run.specs.Plan.{splits, has_room}
+use Rattle.venice_run.specs.Programs.{Parses, Checks, program_in, program_under}
+use Rattle.venice_run.specs.Reading.{text_under, whole_text, loads, limit_of}
+use Rattle.venice_run.specs.Run.{addition_in, run}
+use Rattle.venice_run.specs.Stage.{Then, Ends, Goes, step, gives, refuses}
 use Rattle.venice_run.specs.Words.{Spells, words_of}
+use Rattle.venice_run.proofs.NoFile.{parse_no_file, check_no_file, array_no_file}
+use Rattle.venice_run.proofs.Answered.{one_program, one_refusal, no_misfit, one_misfit}
+
+-- the files show one thing a name, and what the crates below say has one answer
+pub record Settled (files : Behaviour) : Type 0 where
+  pub shows : ShowsOne files
+  pub programs : syntax_laws.HasOneReading
+  pub typings : HasOneTyping
+  pub first_faults : HasOneFirstFault
+  pub no_fault : HasNoFault
+  pub arrays : array_laws.HasOneReading
+  pub at_faults : array_laws.DenotesNothingAtFaults
+  pub array_answers : array_laws.HasOneAnswer
+  pub splits : SplitsAreOne
 
 -- some load may fail
 pub record MayFail (files : Behaviour) : Type 0 where
@@ -29,7 +69,7 @@ pub record MayFail (files : Behaviour) : Type 0 where
   pub fails : files.load_may_fail name
 
 pub record Lawful {A : Type 0} (files : Behaviour) (stage : Result A Ending → Type 0) : Type 0 where
-  pub once : ShowsOne files → (a b : Result A Ending) → stage a → stage b → IsPlain a → IsPlain b → a ≡ b
+  pub once : Settled files → (a b : Result A Ending) → stage a → stage b → IsPlain a → IsPlain b → a ≡ b
   pub fails : stage (Err (Failed File)) → MayFail files
 
 ok_is : {A : Type 0} (a b : A) → ◌≡◌ {A = Result A Ending} (Ok a) (Ok b) → a ≡ b
@@ -50,16 +90,16 @@ pub then_lawful : {A B : Type 0} {files : Behaviour} {first : Result A Ending �
     → Lawful files first → ((value : A) → Lawful files (next value)) → Lawful files (Then first next)
 then_lawful {A} {B} {files} {first} {next} one two = record { once = once; fails = fails }
   where
-    once : ShowsOne files → (a b : Result B Ending) → Then first next a → Then first next b → IsPlain a → IsPlain b → a ≡ b
-    once shows a b (Ends e is same) (Ends f is_f same_f) pa pb =
-        same ∙ ap Err (err_is {A = A} e f (one.once shows (Err e) (Err f) is is_f (plain_err A a e same pa) (plain_err A b f same_f pb))) ∙ sym same_f
-    once shows a b (Ends e is same) (Goes v is_v goes) pa pb =
-        absurd (not_both v e (sym (one.once shows (Err e) (Ok v) is is_v (plain_err A a e same pa) tt)))
-    once shows a b (Goes v is_v goes) (Ends e is same) pa pb =
-        absurd (not_both v e (one.once shows (Ok v) (Err e) is_v is tt (plain_err A b e same pb)))
-    once shows a b (Goes v is_v goes) (Goes w is_w goes_w) pa pb =
-        let v_is : v ≡ w = ok_is v w (one.once shows (Ok v) (Ok w) is_v is_w tt tt) in
-        (two w).once shows a b (subst (λ (x : A). next x a) v_is goes) goes_w pa pb
+    once : Settled files → (a b : Result B Ending) → Then first next a → Then first next b → IsPlain a → IsPlain b → a ≡ b
+    once sure a b (Ends e is same) (Ends f is_f same_f) pa pb =
+        same ∙ ap Err (err_is {A = A} e f (one.once sure (Err e) (Err f) is is_f (plain_err A a e same pa) (plain_err A b f same_f pb))) ∙ sym same_f
+    once sure a b (Ends e is same) (Goes v is_v goes) pa pb =
+        absurd (not_both v e (sym (one.once sure (Err e) (Ok v) is is_v (plain_err A a e same pa) tt)))
+    once sure a b (Goes v is_v goes) (Ends e is same) pa pb =
+        absurd (not_both v e (one.once sure (Ok v) (Err e) is_v is tt (plain_err A b e same pb)))
+    once sure a b (Goes v is_v goes) (Goes w is_w goes_w) pa pb =
+        let v_is : v ≡ w = ok_is v w (one.once sure (Ok v) (Ok w) is_v is_w tt tt) in
+        (two w).once sure a b (subst (λ (x : A). next x a) v_is goes) goes_w pa pb
 
     fails : Then first next (Err (Failed File)) → MayFail files
     fails (Ends e is same) = one.fails (subst (λ (x : Ending). first (Err x)) (sym (err_is {A = B} (Failed File) e same)) is)
@@ -72,160 +112,212 @@ not_none : {A : Type 0} (x : A) → ◌≡◌ {A = Option A} (Some x) None → �
 not_none x e = cc
 
 -- a load
-pub shown_lawful : (files : Behaviour) (name : List ℕ) (limit : ℕ) → Lawful files (shown files name limit)
-unfolding shown
-shown_lawful files name limit = record { once = once; fails = λ may. record { name = name; fails = may } }
+pub load_lawful : (files : Behaviour) (name : List ℕ) (limit : ℕ) → Lawful files (text_under files name limit)
+unfolding text_under
+load_lawful files name limit = record { once = once; fails = λ may. record { name = name; fails = may } }
   where
-    once : ShowsOne files → (a b : Result (Option (List ℕ)) Ending) → shown files name limit a → shown files name limit b → IsPlain a → IsPlain b → a ≡ b
-    once shows (Ok (Some a)) (Ok (Some b)) p q pa pb = ap (λ (t : List ℕ). Ok (Some t)) (some_is a b (shows name (Some a) (Some b) p.0 q.0))
-    once shows (Ok (Some a)) (Ok None) p q pa pb =
-        let same : a ≡ q.0 = some_is a q.0 (shows name (Some a) (Some q.0) p.0 q.1) in absurd (omega (arith, p.1, q.2, ap length same))
-    once shows (Ok None) (Ok (Some b)) p q pa pb =
-        let same : b ≡ p.0 = some_is b p.0 (shows name (Some b) (Some p.0) q.0 p.1) in absurd (omega (arith, q.1, p.2, ap length same))
-    once shows (Ok None) (Ok None) p q pa pb = refl
-    once shows (Ok (Some a)) (Err (Refused r)) p q pa pb = absurd (not_none a (shows name (Some a) None p.0 q.0))
-    once shows (Ok None) (Err (Refused r)) p q pa pb = absurd (not_none p.0 (shows name (Some p.0) None p.1 q.0))
-    once shows (Err (Refused r)) (Ok (Some b)) p q pa pb = absurd (not_none b (shows name (Some b) None q.0 p.0))
-    once shows (Err (Refused r)) (Ok None) p q pa pb = absurd (not_none q.0 (shows name (Some q.0) None q.1 p.0))
-    once shows (Err (Refused r)) (Err (Refused s)) p q pa pb = rw (p.1, q.1) refl
-    once shows (Err (Failed f)) b p q pa pb = absurd pa
-    once shows (Ok (Some a)) (Err (Failed f)) p q pa pb = absurd pb
-    once shows (Ok None) (Err (Failed f)) p q pa pb = absurd pb
-    once shows (Err (Refused r)) (Err (Failed f)) p q pa pb = absurd pb
+    once : Settled files → (a b : Result (Option (List ℕ)) Ending) → text_under files name limit a → text_under files name limit b → IsPlain a → IsPlain b → a ≡ b
+    once sure (Ok (Some a)) (Ok (Some b)) p q pa pb = ap (λ (t : List ℕ). Ok (Some t)) (some_is a b (sure.shows name (Some a) (Some b) p.0 q.0))
+    once sure (Ok (Some a)) (Ok None) p q pa pb =
+        let same : a ≡ q.0 = some_is a q.0 (sure.shows name (Some a) (Some q.0) p.0 q.1) in absurd (omega (arith, p.1, q.2, ap length same))
+    once sure (Ok None) (Ok (Some b)) p q pa pb =
+        let same : b ≡ p.0 = some_is b p.0 (sure.shows name (Some b) (Some p.0) q.0 p.1) in absurd (omega (arith, q.1, p.2, ap length same))
+    once sure (Ok None) (Ok None) p q pa pb = refl
+    once sure (Ok (Some a)) (Err (Refused r)) p q pa pb = absurd (not_none a (sure.shows name (Some a) None p.0 q.0))
+    once sure (Ok None) (Err (Refused r)) p q pa pb = absurd (not_none p.0 (sure.shows name (Some p.0) None p.1 q.0))
+    once sure (Err (Refused r)) (Ok (Some b)) p q pa pb = absurd (not_none b (sure.shows name (Some b) None q.0 p.0))
+    once sure (Err (Refused r)) (Ok None) p q pa pb = absurd (not_none q.0 (sure.shows name (Some q.0) None q.1 p.0))
+    once sure (Err (Refused r)) (Err (Refused s)) p q pa pb = rw (p.1, q.1) refl
+    once sure (Err (Failed f)) b p q pa pb = absurd pa
+    once sure (Ok (Some a)) (Err (Failed f)) p q pa pb = absurd pb
+    once sure (Ok None) (Err (Failed f)) p q pa pb = absurd pb
+    once sure (Err (Refused r)) (Err (Failed f)) p q pa pb = absurd pb
 
 pub refuses_lawful : {A : Type 0} (files : Behaviour) (refusal : Refusal) → Lawful {A = A} files (refuses refusal)
-refuses_lawful files refusal = record { once = λ shows a b p q pa pb. p ∙ sym q; fails = λ e. absurd cc }
+refuses_lawful files refusal = record { once = λ sure a b p q pa pb. p ∙ sym q; fails = λ e. absurd cc }
 
--- a text is the program of one addition
-word_at : List Lexeme → ℕ → List ℕ
-word_at lexemes k = word (slice_get lexemes k)
-  where
-    word : Option Lexeme → List ℕ
-    word None = []
-    word (Some (Word bytes)) = bytes
-    word (Some (Number n)) = []
-    word (Some (Sign bytes)) = []
-
-sum_of : (a b : Addition) → program_lexemes a ≡ program_lexemes b → a.sum ≡ b.sum
-unfolding word_at
-sum_of a b e = ap (λ (ls : List Lexeme). word_at ls 19) e
-
-first_of : (a b : Addition) → program_lexemes a ≡ program_lexemes b → a.first ≡ b.first
-first_of a b e = cc
-
-second_of : (a b : Addition) → program_lexemes a ≡ program_lexemes b → a.second ≡ b.second
-second_of a b e = cc
-
-columns_of : (a b : Addition) → program_lexemes a ≡ program_lexemes b → a.columns ≡ b.columns
-columns_of a b e = cc
-
-same_addition : (a b : Addition) → program_lexemes a ≡ program_lexemes b → a ≡ b
+-- a program is one addition
+same_addition : (a b : Addition) → addition_program a ≡ addition_program b → a ≡ b
 same_addition a b e =
-    let p = first_of a b e in let q = second_of a b e in let r = sum_of a b e in let s = columns_of a b e in
-    λ i. record { first = p i; second = q i; sum = r i; columns = s i }
+    let first : a.first ≡ b.first = cc in
+    let second : a.second ≡ b.second = cc in
+    let sum : a.sum ≡ b.sum = cc in
+    let shape : a.shape ≡ b.shape = cc in
+    λ i. record { first = first i; second = second i; sum = sum i; shape = shape i }
 
-addition_in_lawful : (files : Behaviour) (text : List ℕ) → Lawful files (addition_in text)
-addition_in_lawful files text = record { once = once; fails = λ e. absurd cc }
+addition_in_lawful : (files : Behaviour) (program : List Statement) → Lawful files (addition_in program)
+addition_in_lawful files program = record { once = once; fails = λ e. absurd e }
   where
-    once : ShowsOne files → (a b : Result Addition Ending) → addition_in text a → addition_in text b → IsPlain a → IsPlain b → a ≡ b
-    once shows (Ok a) (Ok b) p q pa pb = ap Ok (same_addition a b (one_lexing_holds text (program_lexemes a) (program_lexemes b) p.lexemes q.lexemes))
-    once shows (Ok a) (Err (Refused r)) p q pa pb = absurd (q.0 a p)
-    once shows (Err (Refused r)) (Ok b) p q pa pb = absurd (p.0 b q)
-    once shows (Err (Refused r)) (Err (Refused s)) p q pa pb = rw (p.1, q.1) refl
-    once shows (Err (Failed f)) b p q pa pb = absurd pa
-    once shows (Ok a) (Err (Failed f)) p q pa pb = absurd pb
-    once shows (Err (Refused r)) (Err (Failed f)) p q pa pb = absurd pb
+    once : Settled files → (a b : Result Addition Ending) → addition_in program a → addition_in program b → IsPlain a → IsPlain b → a ≡ b
+    once sure (Ok a) (Ok b) p q pa pb = ap Ok (same_addition a b (sym p.program_is ∙ q.program_is))
+    once sure (Ok a) (Err (Refused r)) p q pa pb = absurd (q.0 a p)
+    once sure (Err (Refused r)) (Ok b) p q pa pb = absurd (p.0 b q)
+    once sure (Err (Refused r)) (Err (Refused s)) p q pa pb = rw (p.1, q.1) refl
+    once sure (Err (Failed f)) b p q pa pb = absurd pa
+    once sure (Ok a) (Err (Failed f)) p q pa pb = absurd pb
+    once sure (Err (Refused r)) (Err (Failed f)) p q pa pb = absurd pb
 
--- a text gives one list of values for an addition's inputs
-same_numbers : (vs ws : List ℕ) → ◌≡◌ {A = List Lexeme} (map Number vs) (map Number ws) → vs ≡ ws
-same_numbers [] [] e = refl
-same_numbers [] (w ∷ ws) e = absurd cc
-same_numbers (v ∷ vs) [] e = absurd cc
-same_numbers (v ∷ vs) (w ∷ ws) e =
-    let head : v ≡ w = cc in
-    let tail : ◌≡◌ {A = List Lexeme} (map Number vs) (map Number ws) = cc in
-    rw (head, same_numbers vs ws tail) refl
-
-front_is : (vs : List ℕ) (rest : List Lexeme) (columns : ℕ) → length vs ≡ columns → take columns (map Number vs ++ rest) ≡ map Number vs
-front_is vs rest columns len = take_at (map Number vs) rest columns (length-map vs Number ∙ len)
-
-back_is : (vs : List ℕ) (rest : List Lexeme) (columns : ℕ) → length vs ≡ columns → drop columns (map Number vs ++ rest) ≡ rest
-back_is vs rest columns len = drop_at (map Number vs) rest columns (length-map vs Number ∙ len)
-
-same_operands : (a : Addition) (v w : Operands) → AreValues a.columns v.first → AreValues a.columns w.first → operand_lexemes a v ≡ operand_lexemes a w → v ≡ w
-same_operands a v w are are_w e =
-    let rest : List Lexeme = array_lexemes a.second a.columns v.second in
-    let rest_w : List Lexeme = array_lexemes a.second a.columns w.second in
-    let values : map Number v.first ++ rest ≡ map Number w.first ++ rest_w = ap (drop 7) e in
-    let firsts : v.first ≡ w.first = same_numbers v.first w.first
-    (sym (front_is v.first rest a.columns are.count) ∙ ap (take a.columns) values ∙ front_is w.first rest_w a.columns are_w.count) in
-    let rests : rest ≡ rest_w = sym (back_is v.first rest a.columns are.count) ∙ ap (drop a.columns) values ∙ back_is w.first rest_w a.columns are_w.count in
-    let seconds : v.second ≡ w.second = same_numbers v.second w.second (ap (drop 7) rests) in
-    λ i. record { first = firsts i; second = seconds i }
-
-operands_in_lawful : (files : Behaviour) (text : List ℕ) (addition : Addition) → Lawful files (operands_in text addition)
-operands_in_lawful files text addition = record { once = once; fails = λ e. absurd cc }
-  where
-    once : ShowsOne files → (a b : Result Operands Ending) → operands_in text addition a → operands_in text addition b → IsPlain a → IsPlain b → a ≡ b
-    once shows (Ok a) (Ok b) p q pa pb =
-        ap Ok (same_operands addition a b p.first q.first (one_lexing_holds text (operand_lexemes addition a) (operand_lexemes addition b) p.lexemes q.lexemes))
-    once shows (Ok a) (Err (Refused r)) p q pa pb = absurd (q.0 a p)
-    once shows (Err (Refused r)) (Ok b) p q pa pb = absurd (p.0 b q)
-    once shows (Err (Refused r)) (Err (Refused s)) p q pa pb = rw (p.1, q.1) refl
-    once shows (Err (Failed f)) b p q pa pb = absurd pa
-    once shows (Ok a) (Err (Failed f)) p q pa pb = absurd pb
-    once shows (Err (Refused r)) (Err (Failed f)) p q pa pb = absurd pb
-
--- the stages of `run`
-addition_of_text_lawful : (files : Behaviour) (text : Option (List ℕ)) → Lawful files (addition_of_text text)
-addition_of_text_lawful files (Some text) = addition_in_lawful files text
-addition_of_text_lawful files None = refuses_lawful files _
-
-operands_of_text_lawful : (files : Behaviour) (text : Option (List ℕ)) (addition : Addition) → Lawful files (operands_of_text text addition)
-operands_of_text_lawful files (Some text) addition = operands_in_lawful files text addition
-operands_of_text_lawful files None addition = refuses_lawful files _
-
-addition_lawful : (files : Behaviour) (name : List ℕ) → Lawful files (addition_of files name)
-unfolding addition_of
-addition_lawful files name = then_lawful (shown_lawful files name text_limit) (λ text. addition_of_text_lawful files text)
-
-operands_lawful : (files : Behaviour) (name : List ℕ) (addition : Addition) → Lawful files (operands_of files name addition)
-unfolding operands_of
-operands_lawful files name addition = then_lawful (shown_lawful files name text_limit) (λ text. operands_of_text_lawful files text addition)
-
-room_lawful : (files : Behaviour) (addition : Addition) (spad : ℕ) → Lawful files (has_room addition spad)
-room_lawful files addition spad = record { once = once; fails = λ p. absurd (no_file p.0 p.2) }
+room_lawful : (files : Behaviour) (need spad : ℕ) → Lawful files (has_room need spad)
+room_lawful files need spad = record { once = once; fails = λ p. absurd (no_file p.0 p.2) }
   where
     no_file : (shortage : Shortage) → Failed File ≡ Refused (Scratchpad shortage) → ⊥
     no_file shortage e = cc
 
-    once : ShowsOne files → (a b : Result (Unit {0}) Ending) → has_room addition spad a → has_room addition spad b → IsPlain a → IsPlain b → a ≡ b
-    once shows (Ok u) (Ok v) p q pa pb = refl
-    once shows (Ok u) (Err e) p q pa pb = absurd (omega (arith, p, q.1.0))
-    once shows (Err e) (Ok u) p q pa pb = absurd (omega (arith, q, p.1.0))
-    once shows (Err e) (Err f) p q pa pb = rw (p.2, q.2, p.1.1, q.1.1) refl
+    once : Settled files → (a b : Result (Unit {0}) Ending) → has_room need spad a → has_room need spad b → IsPlain a → IsPlain b → a ≡ b
+    once sure (Ok u) (Ok v) p q pa pb = refl
+    once sure (Ok u) (Err e) p q pa pb = absurd (omega (arith, p, q.1.0))
+    once sure (Err e) (Ok u) p q pa pb = absurd (omega (arith, q, p.1.0))
+    once sure (Err e) (Err f) p q pa pb = rw (p.2, q.2, p.1.1, q.1.1) refl
 
 memory_plain : (A : Type 0) (e : Ending) → e ≡ Failed Memory → IsPlain {A = A} (Err e) → ⊥
 memory_plain A e is plain = subst (λ (x : Ending). IsPlain {A = A} (Err x)) is plain
 
-prints_lawful : (files : Behaviour) (text : List ℕ) → Lawful files (prints text)
-prints_lawful files text = record { once = once; fails = λ e. absurd cc }
+gives_lawful : {A : Type 0} (files : Behaviour) (is : A → Type 0) → (Settled files → (a b : A) → is a → is b → a ≡ b) → Lawful files (gives is)
+gives_lawful {A} files is one = record { once = once; fails = λ e. absurd cc }
   where
-    once : ShowsOne files → (a b : Result Answer Ending) → prints text a → prints text b → IsPlain a → IsPlain b → a ≡ b
-    once shows (Ok a) (Ok b) p q pa pb = ap Ok (p ∙ sym q)
-    once shows (Ok a) (Err e) p q pa pb = absurd (memory_plain Answer e q pb)
-    once shows (Err e) b p q pa pb = absurd (memory_plain Answer e p pa)
+    once : Settled files → (a b : Result A Ending) → gives is a → gives is b → IsPlain a → IsPlain b → a ≡ b
+    once sure (Ok a) (Ok b) p q pa pb = ap Ok (one sure a b p q)
+    once sure (Ok a) (Err e) p q pa pb = absurd (memory_plain A e q pb)
+    once sure (Err e) b p q pa pb = absurd (memory_plain A e p pa)
+
+prints_lawful : (files : Behaviour) (text : List ℕ) → Lawful files (prints text)
+prints_lawful files text = gives_lawful files (λ (answer : Answer). answer ≡ record { save = None; text = text; stop = None }) (λ sure a b p q. p ∙ sym q)
+
+-- ---- the stages that commands share
+
+-- a call of a layer below that has one answer, faults of the outside apart
+record HasOne {A E : Type 0} (ending_of : E → Ending) (is : Result A E → Type 0) : Type 0 where
+  values : (a b : A) → is (Ok a) → is (Ok b) → a ≡ b
+  apart : (a : A) (f : E) → is (Ok a) → is (Err f) → IsPlain {A = A} (Err (ending_of f)) → ⊥
+  faults : (f g : E) → is (Err f) → is (Err g) → IsPlain {A = A} (Err (ending_of f)) → IsPlain {A = A} (Err (ending_of g)) → f ≡ g
+
+plain_as : (A : Type 0) (e f : Ending) → e ≡ f → IsPlain {A = A} (Err e) → IsPlain {A = A} (Err f)
+plain_as A e f same plain = subst (λ (x : Ending). IsPlain {A = A} (Err x)) same plain
+
+step_lawful : {A E : Type 0} (files : Behaviour) (ending_of : E → Ending) (is : Result A E → Type 0) → (Settled files → HasOne ending_of is) → ((f : E) → Failed File ≡ ending_of f → ⊥) → Lawful files (step ending_of is)
+step_lawful {A} {E} files ending_of is one no_file = record { once = once; fails = λ p. absurd (no_file p.0 p.2) }
+  where
+    once : Settled files → (a b : Result A Ending) → step ending_of is a → step ending_of is b → IsPlain a → IsPlain b → a ≡ b
+    once sure (Ok a) (Ok b) p q pa pb = ap Ok ((one sure).values a b p q)
+    once sure (Ok a) (Err e) p q pa pb = absurd ((one sure).apart a q.0 p q.1 (plain_as A e (ending_of q.0) q.2 pb))
+    once sure (Err e) (Ok b) p q pa pb = absurd ((one sure).apart b p.0 q p.1 (plain_as A e (ending_of p.0) p.2 pa))
+    once sure (Err e) (Err f) p q pa pb =
+        let same : p.0 ≡ q.0 = (one sure).faults p.0 q.0 p.1 q.1 (plain_as A e (ending_of p.0) p.2 pa) (plain_as A f (ending_of q.0) q.2 pb) in
+        ap Err (p.2 ∙ ap ending_of same ∙ sym q.2)
+
+-- a text within its limit
+whole_lawful : (files : Behaviour) (kind : Kind) (text : Option (List ℕ)) → Lawful files (whole_text kind text)
+whole_lawful files kind (Some text) = record { once = λ sure a b p q pa pb. p ∙ sym q; fails = λ e. absurd cc }
+whole_lawful files kind None = refuses_lawful files _
+
+loads_lawful : (files : Behaviour) (name : List ℕ) (kind : Kind) → Lawful files (loads files name kind)
+unfolding loads
+loads_lawful files name kind = then_lawful (load_lawful files name (limit_of kind)) (λ text. whole_lawful files kind text)
+
+-- the program of a text
+parse_refused : (A : Type 0) (text : List ℕ) (fault : ParseFault) → syntax.IsAnswered text fault → IsPlain {A = A} (Err (parse_ending fault)) → syntax.IsRefused text fault
+parse_refused A text parse_fault.Memory is plain = absurd plain
+parse_refused A text fault is plain = is
+
+parses_one : (files : Behaviour) (text : List ℕ) → Settled files → HasOne parse_ending (Parses text)
+parses_one files text sure = record {
+  values = one_program sure.programs text;
+  apart = λ a f p q plain. (let refused = parse_refused Program text f q plain in p.faultless refused.fault refused.first.here);
+  faults = λ f g p q pf pg. one_refusal text f g (parse_refused Program text f p pf) (parse_refused Program text g q pg);
+}
+
+check_refused : (A : Type 0) (stmts : List Stmt) (fault : CheckFault) → rules.IsAnswered stmts fault → IsPlain {A = A} (Err (check_ending fault)) → rules.IsFirstFault stmts fault
+check_refused A stmts check_fault.Memory is plain = absurd plain
+check_refused A stmts fault is plain = is
+
+checks_one : (files : Behaviour) (stmts : List Stmt) → Settled files → HasOne check_ending (Checks stmts)
+checks_one files stmts sure = record {
+  values = sure.typings stmts;
+  apart = λ a f p q plain. (let refused = check_refused (List Statement) stmts f q plain in sure.no_fault stmts a p refused.place f refused.occurs);
+  faults = λ f g p q pf pg. sure.first_faults stmts f g (check_refused (List Statement) stmts f p pf) (check_refused (List Statement) stmts g q pg);
+}
+
+program_in_lawful : (files : Behaviour) (text : List ℕ) → Lawful files (program_in text)
+unfolding program_in
+program_in_lawful files text =
+    then_lawful (step_lawful files parse_ending (Parses text) (parses_one files text) parse_no_file)
+    (λ program. step_lawful files check_ending (Checks program.stmts) (checks_one files program.stmts) check_no_file)
+
+program_lawful : (files : Behaviour) (name : List ℕ) → Lawful files (program_under files name)
+unfolding program_under
+program_lawful files name = then_lawful (loads_lawful files name _) (λ text. program_in_lawful files text)
+
+-- the inputs of a program
+array_refused : (A : Type 0) (text : List ℕ) (fault : ArrayFault) → files_faults.IsAnswered text fault → IsPlain {A = A} (Err (array_ending fault)) → files_faults.IsRefused text fault
+array_refused A text array_fault.Memory is plain = absurd plain
+array_refused A text fault is plain = is
+
+reads_one : (files : Behaviour) (text : List ℕ) → Settled files → HasOne array_ending (Reads text)
+reads_one files text sure = record {
+  values = sure.arrays text;
+  apart = λ a f p q plain. (let refused = array_refused Pairs text f q plain in sure.at_faults text a refused.fault p refused.first.here);
+  faults = λ f g p q pf pg. sure.array_answers text f g (array_refused Pairs text f p pf) (array_refused Pairs text g q pg);
+}
+
+fitting_lawful : (files : Behaviour) (table : List Entry) (arrays : Pairs) → Lawful files (fitting table arrays)
+fitting_lawful files table arrays = record { once = once; fails = λ e. absurd cc }
+  where
+    once : Settled files → (a b : Result Pairs Ending) → fitting table arrays a → fitting table arrays b → IsPlain a → IsPlain b → a ≡ b
+    once sure (Ok a) (Ok b) p q pa pb = ap Ok (p.0 ∙ sym q.0)
+    once sure (Ok a) (Err (Refused r)) p q pa pb = absurd (no_misfit arrays table q.1.misfit p.1 q.1.first.here)
+    once sure (Err (Refused r)) (Ok b) p q pa pb = absurd (no_misfit arrays table p.1.misfit q.1 p.1.first.here)
+    once sure (Err (Refused r)) (Err (Refused s)) p q pa pb = rw (p.2, q.2, one_misfit arrays table p.0 q.0 p.1 q.1) refl
+    once sure (Err (Failed f)) b p q pa pb = absurd pa
+    once sure (Ok a) (Err (Failed f)) p q pa pb = absurd pb
+    once sure (Err (Refused r)) (Err (Failed f)) p q pa pb = absurd pb
+
+inputs_in_lawful : (files : Behaviour) (text : List ℕ) (program : List Statement) → Lawful files (inputs_in text program)
+unfolding inputs_in
+inputs_in_lawful files text program =
+    then_lawful (step_lawful files array_ending (Reads text) (reads_one files text) array_no_file) (λ arrays. fitting_lawful files (input_table program) arrays)
+
+inputs_lawful : (files : Behaviour) (name : List ℕ) (program : List Statement) → Lawful files (inputs_under files name program)
+unfolding inputs_under
+inputs_lawful files name program = then_lawful (loads_lawful files name _) (λ text. inputs_in_lawful files text program)
+
+splits_lawful : (files : Behaviour) (program : List Statement) → Lawful files (splits program)
+splits_lawful files program = gives_lawful files (IsSplitOf program) (λ sure a b p q. sure.splits program a b p q)
+
+-- ---- the commands
+
+eval_lawful : (files : Behaviour) (program inputs : List ℕ) → Lawful files (eval files program inputs)
+unfolding eval
+eval_lawful files program inputs =
+    then_lawful (program_lawful files program) (λ checked.
+    then_lawful (inputs_lawful files inputs checked) (λ arrays. prints_lawful files _))
+
+check_lawful : (files : Behaviour) (program : List ℕ) (spad : ℕ) → Lawful files (check files program spad)
+unfolding check
+check_lawful files program spad =
+    then_lawful (program_lawful files program) (λ checked.
+    then_lawful (splits_lawful files checked) (λ split.
+    then_lawful (room_lawful files (need_of split.passes) spad) (λ _. prints_lawful files _)))
+
+explain_lawful : (files : Behaviour) (program : List ℕ) → Lawful files (explain files program)
+unfolding explain
+explain_lawful files program =
+    then_lawful (program_lawful files program) (λ checked.
+    then_lawful (splits_lawful files checked) (λ split. prints_lawful files _))
 
 run_lawful : (files : Behaviour) (program inputs : List ℕ) (spad : ℕ) → Lawful files (run files program inputs spad)
 unfolding run
 run_lawful files program inputs spad =
-    then_lawful (addition_lawful files program) (λ addition.
-    then_lawful (room_lawful files addition spad) (λ _.
-    then_lawful (operands_lawful files inputs addition) (λ operands. prints_lawful files (sum_text addition operands))))
+    then_lawful (program_lawful files program) (λ checked.
+    then_lawful (addition_in_lawful files checked) (λ addition.
+    then_lawful (room_lawful files (addition_need addition) spad) (λ _.
+    then_lawful (inputs_lawful files inputs checked) (λ arrays. prints_lawful files _))))
 
 -- each request's stages
 stages_lawful : (files : Behaviour) (request : Request) → Lawful files (stages_of files request)
 stages_lawful files (Run program inputs image lanes spad) = run_lawful files program.now inputs.now spad
+stages_lawful files (Eval program inputs) = eval_lawful files program.now inputs.now
+stages_lawful files (Check program spad) = check_lawful files program.now spad
+stages_lawful files (Explain program) = explain_lawful files program.now
 
 -- words spell one request, but for where its names lie in memory
 same_stages : (files : Behaviour) (words : List (List ℕ)) (r s : Request) → Spells words r → Spells words s → (b : Result Answer Ending) → stages_of files s b → stages_of files r b
@@ -236,17 +328,36 @@ same_stages files words (Run p i m l n) (Run q j k o t) spells spells_s b h =
     let spads : decimal n ≡ decimal t = cc in
     let sizes : n ≡ t = decimal_injective n t (omega (arith, spells.in_range.1.1)) (omega (arith, spells_s.in_range.1.1)) spads in
     rw (programs, inputs, sizes) h
+same_stages files words (Run p i m l n) s spells spells_s b h = absurd cc
+same_stages files words (Eval p i) (Eval q j) spells spells_s b h =
+    let e : words_of (Eval p i) ≡ words_of (Eval q j) = sym spells.words_are ∙ spells_s.words_are in
+    let programs : p.now ≡ q.now = cc in
+    let inputs : i.now ≡ j.now = cc in
+    rw (programs, inputs) h
+same_stages files words (Eval p i) s spells spells_s b h = absurd cc
+same_stages files words (Check p n) (Check q t) spells spells_s b h =
+    let e : words_of (Check p n) ≡ words_of (Check q t) = sym spells.words_are ∙ spells_s.words_are in
+    let programs : p.now ≡ q.now = cc in
+    let spads : decimal n ≡ decimal t = cc in
+    let sizes : n ≡ t = decimal_injective n t (omega (arith, spells.in_range.1)) (omega (arith, spells_s.in_range.1)) spads in
+    rw (programs, sizes) h
+same_stages files words (Check p n) s spells spells_s b h = absurd cc
+same_stages files words (Explain p) (Explain q) spells spells_s b h =
+    let e : words_of (Explain p) ≡ words_of (Explain q) = sym spells.words_are ∙ spells_s.words_are in
+    let programs : p.now ≡ q.now = cc in
+    rw programs h
+same_stages files words (Explain p) s spells spells_s b h = absurd cc
 
 -- what the words come to
 pub answer_lawful : (files : Behaviour) (words : List (List ℕ)) → Lawful files (answer_to files words)
 answer_lawful files words = record { once = once; fails = fails }
   where
-    once : ShowsOne files → (a b : Result Answer Ending) → answer_to files words a → answer_to files words b → IsPlain a → IsPlain b → a ≡ b
-    once shows a b (Ends e is same) (Ends f is_f same_f) pa pb = same ∙ ap Err (is.1 ∙ sym is_f.1) ∙ sym same_f
-    once shows a b (Ends e is same) (Goes s spells goes) pa pb = absurd (is.0 s spells)
-    once shows a b (Goes r spells goes) (Ends e is same) pa pb = absurd (is.0 r spells)
-    once shows a b (Goes r spells goes) (Goes s spells_s goes_s) pa pb =
-        (stages_lawful files r).once shows a b goes (same_stages files words r s spells spells_s b goes_s) pa pb
+    once : Settled files → (a b : Result Answer Ending) → answer_to files words a → answer_to files words b → IsPlain a → IsPlain b → a ≡ b
+    once sure a b (Ends e is same) (Ends f is_f same_f) pa pb = same ∙ ap Err (is.1 ∙ sym is_f.1) ∙ sym same_f
+    once sure a b (Ends e is same) (Goes s spells goes) pa pb = absurd (is.0 s spells)
+    once sure a b (Goes r spells goes) (Ends e is same) pa pb = absurd (is.0 r spells)
+    once sure a b (Goes r spells goes) (Goes s spells_s goes_s) pa pb =
+        (stages_lawful files r).once sure a b goes (same_stages files words r s spells spells_s b goes_s) pa pb
 
     usage_is_no_file : (e : Ending) → ◌≡◌ {A = Result Answer Ending} (Err (Failed File)) (Err e) → e ≡ Refused Usage → ⊥
     usage_is_no_file e same is = cc

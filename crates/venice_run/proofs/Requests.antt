@@ -1,15 +1,15 @@
 -- Plain decimals, and words that are looked at one by one.
-use Rattle.std.proofs.Common.{◌≡◌, ℕ, ◌^◌, ◌<◌, ◌≤◌, List, [], ◌∷◌, length, get_or, Result, Ok, Err, Bool, true, false, IsTrue, refl, sym, ap, ◌∙◌, arith}
-use Rattle.std.specs.Prelude.{codes, decimal, String}
+use Rattle.std.proofs.Common.{◌≡◌, ℕ, ◌^◌, ◌<◌, ◌≤◌, List, [], ◌∷◌, length, get_or, Result, Ok, Err, Bool, true, false, IsTrue, refl, sym, ap, ◌∙◌, arith, Option, Some, None}
+use Rattle.std.specs.Prelude.{codes, decimal, String, MatchOption}
 use Rattle.std.specs.String.{string_bytes}
 use Rattle.std.specs.Str.Parse.{ParsesUnsigned}
 use Rattle.std.specs.declared.alloc.Global.{Global}
 use Rattle.std.proofs.lemmas.Fmt.{parse-decimal}
 use Rattle.std.proofs.lemmas.List.{get_or-map}
 use Rattle.venice_run.specs.declared.request.Request.{Request}
-use Rattle.venice_run.specs.declared.request.Request.TheVariants.{Run}
-use Rattle.venice_run.specs.Requests.{IsRun}
-use Rattle.venice_run.specs.Words.{texts_of, IsUpTo, Spells}
+use Rattle.venice_run.specs.declared.request.Request.TheVariants.{Run, Eval, Check, Explain}
+use Rattle.venice_run.specs.Requests.{IsRun, IsEval, IsCheck, IsExplain}
+use Rattle.venice_run.specs.Words.{texts_of, words_of, IsUpTo, Spells}
 
 read : {E : Type 0} (text : List ℕ) (most n : ℕ) (r : Result ℕ E) → most < 2 ^ 32 → n ≤ most → text ≡ decimal n → ParsesUnsigned 32 10 text r → r ≡ Ok n
 read text most n r small le is parsed = parse-decimal 32 n text r (omega arith) (omega arith) is parsed
@@ -42,11 +42,20 @@ pub no_lanes : (words : List (String Global)) (word : String Global) → word �
     → (request : Request) → IsRun request → ¬ Spells (texts_of words) request
 no_lanes words word is long none (Run program inputs image lanes spad) run spells =
     none lanes spells.in_range.0 (word_at words word 4 is (omega arith) ∙ ap (λ (ws : List (List ℕ)). get_or ws 4 []) spells.words_are)
+no_lanes words word is long none request run spells = absurd run
 
 pub no_spad : (words : List (String Global)) (word : String Global) → word ≡ get_or words 5 word → 6 ≤ length words → ((n : ℕ) → IsUpTo 1048576 n → string_bytes word ≡ decimal n → ⊥)
     → (request : Request) → IsRun request → ¬ Spells (texts_of words) request
 no_spad words word is long none (Run program inputs image lanes spad) run spells =
     none spad spells.in_range.1 (word_at words word 5 is (omega arith) ∙ ap (λ (ws : List (List ℕ)). get_or ws 5 []) spells.words_are)
+no_spad words word is long none request run spells = absurd run
+
+-- `check`: the third word is its number
+pub no_size : (words : List (String Global)) (word : String Global) → word ≡ get_or words 2 word → 3 ≤ length words → ((n : ℕ) → IsUpTo 1048576 n → string_bytes word ≡ decimal n → ⊥)
+    → (request : Request) → IsCheck request → ¬ Spells (texts_of words) request
+no_size words word is long none (Check program spad) check spells =
+    none spad spells.in_range (word_at words word 2 is (omega arith) ∙ ap (λ (ws : List (List ℕ)). get_or ws 2 []) spells.words_are)
+no_size words word is long none request check spells = absurd check
 
 -- six words, one by one
 pub six : (words : List (String Global)) (a b c d e f : String Global) → 6 ≤ length words → length words < 7
@@ -55,6 +64,32 @@ pub six : (words : List (String Global)) (a b c d e f : String Global) → 6 ≤
 six (u ∷ v ∷ w ∷ x ∷ y ∷ z ∷ []) a b c d e f low high p0 p1 p2 p3 p4 p5 = cc
 six _ a b c d e f low high p0 p1 p2 p3 p4 p5 = absurd (omega arith)
 
--- words that spell no request
-pub none : (words : List (List ℕ)) → ((request : Request) → IsRun request → ¬ Spells words request) → (request : Request) → ¬ Spells words request
-none words no_run (Run program inputs image lanes spad) spells = no_run (Run program inputs image lanes spad) tt spells
+-- and fewer
+pub three : (words : List (String Global)) (a b c : String Global) → 3 ≤ length words → length words < 4 → a ≡ get_or words 0 a → b ≡ get_or words 1 b → c ≡ get_or words 2 c
+    → texts_of words ≡ string_bytes a ∷ string_bytes b ∷ string_bytes c ∷ []
+three (u ∷ v ∷ w ∷ []) a b c low high p0 p1 p2 = cc
+three _ a b c low high p0 p1 p2 = absurd (omega arith)
+
+pub two : (words : List (String Global)) (a b : String Global) → 2 ≤ length words → length words < 3 → a ≡ get_or words 0 a → b ≡ get_or words 1 b → texts_of words ≡ string_bytes a ∷ string_bytes b ∷ []
+two (u ∷ v ∷ []) a b low high p0 p1 = cc
+two _ a b low high p0 p1 = absurd (omega arith)
+
+-- the number of words and the first of them
+pub not_so_many : (words : List (List ℕ)) (n : ℕ) (request : Request) → (length words ≡ n → ⊥) → length (words_of request) ≡ n → ¬ Spells words request
+not_so_many words n request other is spells = other (ap length spells.words_are ∙ is)
+
+pub other_word : (words : List (List ℕ)) (word : List ℕ) (request : Request) → (get_or words 0 [] ≡ word → ⊥) → get_or (words_of request) 0 [] ≡ word → ¬ Spells words request
+other_word words word request other is spells = other (ap (λ (ws : List (List ℕ)). get_or ws 0 []) spells.words_are ∙ is)
+
+-- words that spell none of the first commands' requests spell what the last one's say
+pub last : (words : List (List ℕ)) (found : Option Request)
+    → ((request : Request) → IsRun request → ¬ Spells words request) → ((request : Request) → IsEval request → ¬ Spells words request) → ((request : Request) → IsCheck request → ¬ Spells words request)
+    → MatchOption found ((request : Request) → IsExplain request → ¬ Spells words request) (Spells words) → MatchOption found ((request : Request) → ¬ Spells words request) (Spells words)
+last words (Some request) no_run no_eval no_check spells = spells
+last words None no_run no_eval no_check no_explain = none
+  where
+    none : (request : Request) → ¬ Spells words request
+    none (Run program inputs image lanes spad) = no_run (Run program inputs image lanes spad) tt
+    none (Eval program inputs) = no_eval (Eval program inputs) tt
+    none (Check program spad) = no_check (Check program spad) tt
+    none (Explain program) = no_explain (Explain program) tt

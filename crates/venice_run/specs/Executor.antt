@@ -1,5 +1,5 @@
--- The issues that the plain executor does, and the steps that they take.
-use Rattle.std.specs.Prelude.{◌≡◌, ℕ, ◌+◌, ◌%◌, ◌^◌, ◌≤◌, List, map}
+-- Inner: the issues that the plain executor does, and the steps that they take.
+use Rattle.std.specs.Prelude.{◌≡◌, ℕ, ◌+◌, ◌%◌, ◌^◌, ◌≤◌, List, length, map}
 use Rattle.std.specs.List.{zip}
 use Rattle.venice_isa.specs.declared.work.VecWork.{VecWork}
 use Rattle.venice_isa.specs.declared.work.DmaWork.{DmaWork}
@@ -37,3 +37,9 @@ store_of cells memory = record { cells = cells; memory = memory }
 -- the sums of two rows of cells, byte by byte, their flags cleared
 abbrev pub added : List Cell → List Cell → List Cell
 added first second = map (λ pair. clear ((byte_of pair.0 + byte_of pair.1) % 2 ^ 8)) (zip first second)
+
+-- two arrays of one length, of 1 to 2,048 bytes
+pub record FitTile (first second : List ℕ) : Type 0 where
+  pub some : 1 ≤ length first
+  pub few : length first ≤ 2048
+  pub one_length : length second ≡ length first

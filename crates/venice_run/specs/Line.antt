@@ -2,13 +2,21 @@
 use Rattle.std.specs.Prelude.{ℕ, List, [], ◌∷◌, ◌++◌, map, codes, decimal}
 use Rattle.std.specs.List.{concat}
 use Rattle.ven_io.specs.Token.{line_end}
+use Rattle.array_syntax.specs.declared.fault.ParseFault.{ParseFault}
+use Rattle.array_syntax.specs.declared.fault.ParseFault.TheVariants as parse_fault
+use Rattle.shape_check.specs.declared.fault.CheckFault.{CheckFault}
+use Rattle.shape_check.specs.declared.fault.CheckFault.TheVariants as check_fault
+use Rattle.array_file.specs.declared.fault.ArrayFault.{ArrayFault}
+use Rattle.array_file.specs.declared.fault.ArrayFault.TheVariants as array_fault
+use Rattle.array_file.specs.declared.fitting.FitFault.{FitFault}
+use Rattle.array_file.specs.declared.fitting.FitFault.TheVariants as fit_fault
 use Rattle.venice_run.specs.declared.ending.Ending.{Ending}
 use Rattle.venice_run.specs.declared.ending.Ending.TheVariants.{Refused, Failed}
 use Rattle.venice_run.specs.declared.ending.Fault.TheVariants.{File, Memory}
 use Rattle.venice_run.specs.declared.refusal.Kind.{Kind}
 use Rattle.venice_run.specs.declared.refusal.Kind.TheVariants as kind
 use Rattle.venice_run.specs.declared.refusal.Refusal.{Refusal}
-use Rattle.venice_run.specs.declared.refusal.Refusal.TheVariants.{Usage, FileMissing, TooLong, Form, Scratchpad}
+use Rattle.venice_run.specs.declared.refusal.Refusal.TheVariants.{Usage, FileMissing, TooLong, Parse, Check, Form, Scratchpad, Arrays, Fit}
 
 -- A part of a line: words (or a name), or a number in decimal.
 pub data Part : Type 0 where
@@ -20,8 +28,8 @@ part_text (Words text) = text
 part_text (Number n) = decimal n
 
 -- the parts, each behind a space
-abbrev pub spaced : List Part → List ℕ
-spaced parts = concat (map (λ part. 32 ∷ part_text part) parts)
+abbrev pub parts_text : List Part → List ℕ
+parts_text parts = concat (map (λ part. 32 ∷ part_text part) parts)
 
 -- the word of each kind of text
 abbrev pub kind_word : Kind → List ℕ
@@ -31,23 +39,80 @@ kind_word kind.Grants = codes "grants"
 kind_word kind.Image = codes "image"
 kind_word kind.Text = codes "text"
 
+-- what is wrong at a place of a text
+abbrev pub wrong_at : Kind → List ℕ → ℕ → List Part
+wrong_at kind words at = Words (kind_word kind) ∷ Words words ∷ Words (codes "at") ∷ Number at ∷ []
+
+-- the parts of the line of each fault of a program's text; that memory ran out is no refusal
+abbrev pub parse_parts : ParseFault → List Part
+parse_parts (parse_fault.NotAscii at) = wrong_at kind.Program (codes "not ascii") at
+parse_parts (parse_fault.Unexpected at) = wrong_at kind.Program (codes "unexpected") at
+parse_parts (parse_fault.NameTooLong at) = wrong_at kind.Program (codes "name too long") at
+parse_parts (parse_fault.NumberTooLarge at) = wrong_at kind.Program (codes "number too large") at
+parse_parts (parse_fault.TooManyStatements at) = wrong_at kind.Program (codes "too many statements") at
+parse_parts (parse_fault.TooManyNodes at) = wrong_at kind.Program (codes "too many nodes") at
+parse_parts (parse_fault.TooDeep at) = wrong_at kind.Program (codes "too deep") at
+parse_parts parse_fault.Memory = Words (codes "memory") ∷ []
+
+-- of each rule that a program breaks
+abbrev pub check_parts : CheckFault → List Part
+check_parts (check_fault.Twice at) = wrong_at kind.Program (codes "twice") at
+check_parts (check_fault.Unknown at) = wrong_at kind.Program (codes "unknown") at
+check_parts (check_fault.TypeMismatch at) = wrong_at kind.Program (codes "type mismatch") at
+check_parts (check_fault.ShapeMismatch at) = wrong_at kind.Program (codes "shape mismatch") at
+check_parts (check_fault.LiteralAlone at) = wrong_at kind.Program (codes "literal alone") at
+check_parts (check_fault.LiteralRange at) = wrong_at kind.Program (codes "literal range") at
+check_parts (check_fault.BadShape at) = wrong_at kind.Program (codes "bad shape") at
+check_parts (check_fault.BadSection at) = wrong_at kind.Program (codes "bad section") at
+check_parts (check_fault.BadStretch at) = wrong_at kind.Program (codes "bad stretch") at
+check_parts check_fault.NoOutput = Words (codes "program no output") ∷ []
+check_parts (check_fault.TooMuchWork need) = Words (codes "program too much work") ∷ Number need ∷ []
+check_parts check_fault.Memory = Words (codes "memory") ∷ []
+
+-- what is wrong with an array of the inputs
+abbrev pub wrong_array : List ℕ → List ℕ → List Part
+wrong_array words name = Words (codes "inputs") ∷ Words words ∷ Words name ∷ []
+
+-- the parts of the line of each fault of an array file, and of inputs that don't fit
+abbrev pub array_parts : ArrayFault → List Part
+array_parts (array_fault.Unexpected at) = wrong_at kind.Inputs (codes "unexpected") at
+array_parts (array_fault.OutOfType at) = wrong_at kind.Inputs (codes "out of type") at
+array_parts (array_fault.CountWrong name need have) =
+    Words (codes "inputs count") ∷ Words name ∷ Words (codes "need") ∷ Number need ∷ Words (codes "have") ∷ Number have ∷ []
+array_parts (array_fault.Twice name) = wrong_array (codes "twice") name
+array_parts array_fault.Memory = Words (codes "memory") ∷ []
+
+abbrev pub fit_parts : FitFault → List Part
+fit_parts (fit_fault.Missing name) = wrong_array (codes "missing") name
+fit_parts (fit_fault.TypeWrong name) = wrong_array (codes "type") name
+fit_parts (fit_fault.ShapeWrong name) = wrong_array (codes "shape") name
+fit_parts (fit_fault.Extra name) = wrong_array (codes "extra") name
+
 -- the parts of each refusal's line
 abbrev pub refusal_parts : Refusal → List Part
 refusal_parts Usage = Words (codes "usage") ∷ []
 refusal_parts FileMissing = Words (codes "file missing") ∷ []
 refusal_parts (TooLong kind) = Words (kind_word kind) ∷ Words (codes "too long") ∷ []
-refusal_parts (Form kind) = Words (kind_word kind) ∷ Words (codes "form") ∷ []
+refusal_parts (Parse fault) = parse_parts fault
+refusal_parts (Check fault) = check_parts fault
+refusal_parts Form = Words (codes "program form") ∷ []
 refusal_parts (Scratchpad shortage) =
     Words (codes "scratchpad need") ∷ Number shortage.need ∷ Words (codes "have") ∷ Number shortage.have ∷ []
+refusal_parts (Arrays fault) = array_parts fault
+refusal_parts (Fit fault) = fit_parts fault
 
 abbrev pub parts_of : Ending → List Part
 parts_of (Refused refusal) = refusal_parts refusal
 parts_of (Failed File) = Words (codes "file") ∷ []
 parts_of (Failed Memory) = Words (codes "memory") ∷ []
 
--- a line, with its line end
+-- a line: its first word, the parts, and its line end
+abbrev pub spaced : List ℕ → List Part → List ℕ
+spaced word parts = word ++ parts_text parts ++ line_end ∷ []
+
+-- the line of a refusal or a fault
 abbrev pub line_with : List Part → List ℕ
-line_with parts = codes "error:" ++ spaced parts ++ line_end ∷ []
+line_with parts = spaced (codes "error:") parts
 
 abbrev pub line_of : Ending → List ℕ
 line_of ending = line_with (parts_of ending)
@@ -68,8 +133,12 @@ abbrev pub refusal_status : Refusal → ℕ
 refusal_status Usage = 2
 refusal_status FileMissing = 8
 refusal_status (TooLong kind) = kind_status kind
-refusal_status (Form kind) = kind_status kind
+refusal_status (Parse fault) = 3
+refusal_status (Check fault) = 3
+refusal_status Form = 3
 refusal_status (Scratchpad shortage) = 5
+refusal_status (Arrays fault) = 4
+refusal_status (Fit fault) = 4
 
 abbrev pub memory_status : ℕ
 memory_status = 10

@@ -62,13 +62,13 @@ pub data Says (before after : SinkState) (status : ℕ) (lines : List (List ℕ)
       → Takes before after front → after.failed_puts ≡ before.failed_puts → result ≡ memory_status
       → Says before after status lines result
 
--- an end's line is said, or in its place that memory ran out
+-- an end's line is put, or in its place the line of memory that ran out
 pub record SaysEnding (before after : SinkState) (ending : Ending) (result : ℕ) : Type 0 where
-  pub said : Ending
-  pub is : (said ≡ ending) ⊎ (said ≡ Failed Memory)
-  pub says : Says before after (status_of said) (line_of said ∷ []) result
+  pub message : Ending
+  pub is : (message ≡ ending) ⊎ (message ≡ Failed Memory)
+  pub says : Says before after (status_of message) (line_of message ∷ []) result
 
--- what is said of each outcome
+-- the lines that are put for each outcome
 abbrev pub SaysOutcome : SinkState → SinkState → Outcome → ℕ → Type 0
 SaysOutcome before after (Done answer) result = Says before after (answer_status answer) (text_lines answer.text) result
 SaysOutcome before after (Stopped ending) result = SaysEnding before after ending result
@@ -84,5 +84,5 @@ pub record Promise {Content : Type 0} (behaviour : Content → Behaviour) (befor
   -- one load failed exactly where `error: file` is meant, and one save where `error: save` is
   pub loads : CountsFaults before.files.failed_loads after.files.failed_loads (outcome ≡ Stopped (Failed File))
   pub saves : CountsFaults before.files.failed_saves after.files.failed_saves (outcome ≡ NotSaved)
-  -- it is said, as far as it can be put
+  -- it is put, line by line
   pub says : SaysOutcome before.sink after.sink outcome result

@@ -20,20 +20,20 @@ limit_of kind.Program = program_limit
 limit_of kind = file_limit
 
 -- what a load of the name shows: the whole text, or that it is longer than the limit
-unfoldable pub shown : Behaviour → List ℕ → ℕ → Stage (Option (List ℕ))
-shown files name limit (Ok (Some text)) = files.shows name (Some text) × (length text ≤ limit)
-shown files name limit (Ok None) = (text : List ℕ) × files.shows name (Some text) × (limit < length text)
-shown files name limit (Err (Refused refusal)) = files.shows name None × (refusal ≡ FileMissing)
-shown files name limit (Err (Failed File)) = files.load_may_fail name
-shown files name limit (Err (Failed Memory)) = Unit {0}
+unfoldable pub text_under : Behaviour → List ℕ → ℕ → Stage (Option (List ℕ))
+text_under files name limit (Ok (Some text)) = files.shows name (Some text) × (length text ≤ limit)
+text_under files name limit (Ok None) = (text : List ℕ) × files.shows name (Some text) × (limit < length text)
+text_under files name limit (Err (Refused refusal)) = files.shows name None × (refusal ≡ FileMissing)
+text_under files name limit (Err (Failed File)) = files.load_may_fail name
+text_under files name limit (Err (Failed Memory)) = Unit {0}
 
 -- the text, where it isn't longer than its kind may be
-abbrev pub within : Kind → Option (List ℕ) → Stage (List ℕ)
-within kind (Some text) result = result ≡ Ok text
-within kind None result = refuses (TooLong kind) result
+abbrev pub whole_text : Kind → Option (List ℕ) → Stage (List ℕ)
+whole_text kind (Some text) result = result ≡ Ok text
+whole_text kind None result = refuses (TooLong kind) result
 
 -- the whole text of the kind that the name has
 unfoldable pub loads : Behaviour → List ℕ → Kind → Stage (List ℕ)
 loads files name kind = do
-  text ← shown files name (limit_of kind)
-  within kind text
+  text ← text_under files name (limit_of kind)
+  whole_text kind text

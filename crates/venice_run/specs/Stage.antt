@@ -38,6 +38,6 @@ abbrev pub refuses : {A : Type 0} → Refusal → Stage A
 refuses refusal result = result ≡ Err (Refused refusal)
 
 -- what a call of the code answers, with its value as the stage has it
-abbrev pub answered : {A B : Type 0} → (A → B) → Result A Ending → Result B Ending
-answered view (Ok value) = Ok (view value)
-answered view (Err ending) = Err ending
+abbrev pub as_stage : {A B : Type 0} → (A → B) → Result A Ending → Result B Ending
+as_stage view (Ok value) = Ok (view value)
+as_stage view (Err ending) = Err ending

@@ -5,7 +5,7 @@ use Rattle.std.specs.declared.alloc.Global.{Global}
 use Rattle.venice_run.specs.declared.command.Command.{Command}
 use Rattle.venice_run.specs.declared.command.Command.TheVariants as command
 use Rattle.venice_run.specs.declared.request.Request.{Request}
-use Rattle.venice_run.specs.declared.request.Request.TheVariants.{Run}
+use Rattle.venice_run.specs.declared.request.Request.TheVariants.{Run, Eval, Check, Explain}
 
 -- the bytes of each word
 abbrev pub texts_of : List (String Global) → List (List ℕ)
@@ -26,10 +26,15 @@ IsUpTo most n = (1 ≤ n) × (n ≤ most)
 abbrev pub words_of : Request → List (List ℕ)
 words_of (Run program inputs image lanes spad) =
     codes "run" ∷ program.now ∷ inputs.now ∷ image.now ∷ decimal lanes ∷ decimal spad ∷ []
+words_of (Eval program inputs) = codes "eval" ∷ program.now ∷ inputs.now ∷ []
+words_of (Check program spad) = codes "check" ∷ program.now ∷ decimal spad ∷ []
+words_of (Explain program) = codes "explain" ∷ program.now ∷ []
 
 -- the numbers of each request that are in range
 abbrev pub IsInRange : Request → Type 0
 IsInRange (Run program inputs image lanes spad) = IsUpTo most_lanes lanes × IsUpTo most_scratchpad spad
+IsInRange (Check program spad) = IsUpTo most_scratchpad spad
+IsInRange _ = Unit {0}
 
 -- the words spell the request
 pub record Spells (words : List (List ℕ)) (request : Request) : Type 0 where
@@ -39,9 +44,12 @@ pub record Spells (words : List (List ℕ)) (request : Request) : Type 0 where
 -- the command of each request
 abbrev pub command_of : Request → Command
 command_of (Run program inputs image lanes spad) = command.Run lanes spad
+command_of (Eval program inputs) = command.Eval
+command_of (Check program spad) = command.Check spad
+command_of (Explain program) = command.Explain
 
 -- the words spell a request of this command
 pub record SpellsCommand (words : List (List ℕ)) (command : Command) : Type 0 where
   pub request : Request
-  pub spelled : Spells words request
+  pub spells : Spells words request
   pub is : command ≡ command_of request

@@ -1,13 +1,18 @@
 //! The program that adds two arrays.
 
-ghost use Rattle.std.specs.Prelude.{◌≡◌, ◌↔◌, ℕ, List, MatchOption, IsTrue, slice_get, Some};
-ghost use Rattle.venice_run.specs.Addition.{Addition as Denoted, IsAddition, program_lexemes, need_of};
-ghost use Rattle.venice_run.specs.Items.{lexemes_of};
-ghost use Rattle.ven_io.specs.Lexemes.{Word, Number};
-ghost use Rattle.ven_base.specs.Name.{IsName};
+ghost use Rattle.std.specs.Prelude.{◌≡◌, ◌↔◌, MatchOption, IsTrue};
+ghost use Rattle.ven_base.specs.declared.elem.Elem.TheVariants as elems;
+ghost use Rattle.shape_check.specs.Checked.{program_of, statement_of, IsWhole};
+ghost use Rattle.shape_check.specs.Node as nodes;
+ghost use Rattle.shape_check.specs.Statement.{Input, Output};
+ghost use Rattle.shape_check.specs.Typed.{node_of};
+ghost use Rattle.venice_run.specs.Addition.{Addition as Denoted, IsAddition, sum_node, addition_need};
 
-use crate::items::{Item, are_same};
-use ven_base::Name;
+use shape_check::{CheckedStmt, StmtKind, Typed, TypedKind};
+use ven_base::{Elem, Name, Op2, Shape};
+
+/// The most columns of an addition.
+const MOST_COLUMNS: u32 = 2048;
 
 /// `input X u8[1,C]; input Y u8[1,C]; output Z = X + Y;`
 #[derive(Clone, Copy)]
@@ -15,111 +20,84 @@ pub(crate) struct Addition {
     pub first: Name,
     pub second: Name,
     pub sum: Name,
-    pub columns: u32,
+    pub shape: Shape,
 }
 
 impl Addition {
+    ghost use Rattle.std.specs.Prelude.{All};
     ghost use Rattle.venice_run.specs.Additions.{denoted};
 
-    /// The addition that the items are the program of, where they are one's.
-    pub fn from_items(items: &[Item]) -> Option<Addition>
-        ensures { MatchOption result ((a : Denoted) → IsAddition a → lexemes_of items.now ≡ program_lexemes a → ⊥)
-            (λ a. IsAddition (denoted a) × (lexemes_of items.now ≡ program_lexemes (denoted a))) }
+    /// The addition that the statements are, where they are one's.
+    pub fn from_program(stmts: &[CheckedStmt]) -> Option<Addition>
+        requires { All IsWhole stmts.now }
+        ensures { MatchOption result ((a : Denoted) → ¬ IsAddition (program_of stmts.now) a)
+            (λ a. IsAddition (program_of stmts.now) (denoted a)) }
     {
-        let addition = Addition::guess(items)?;
-        if addition.is_lawful() && are_same(items, addition.items().as_slice()) {
-            Some(addition)
+        let [first, second, sum] = stmts else {
+            return None;
+        };
+        let shape = first.shape;
+        let few = shape.rows == 1 && shape.cols <= MOST_COLUMNS;
+        if few && is_input(first, shape) && is_input(second, shape) && is_sum(sum, shape) {
+            Some(Addition {
+                first: first.name,
+                second: second.name,
+                sum: sum.name,
+                shape,
+            })
         } else {
             None
         }
     }
 
-    /// The names and the columns at the places where a program of the form has them.
-    fn guess(items: &[Item]) -> Option<Addition>
-        ensures { MatchOption result ((a : Denoted) → IsAddition a → lexemes_of items.now ≡ program_lexemes a → ⊥)
-            (λ a. (b : Denoted) → IsAddition b → lexemes_of items.now ≡ program_lexemes b → b ≡ denoted a) }
-    {
-        let first = word_at(items, 1)?;
-        let second = word_at(items, 10)?;
-        let sum = word_at(items, 19)?;
-        let columns = number_at(items, 6)?;
-        Some(Addition {
-            first,
-            second,
-            sum,
-            columns,
-        })
-    }
-
-    fn is_lawful(&self) -> bool
-        ensures { IsTrue result ↔ IsAddition (denoted self.now) }
-    {
-        let (first, second, sum) = (self.first.bytes(), self.second.bytes(), self.sum.bytes());
-        let few = 1 <= self.columns && self.columns <= 2048;
-        few && first != second && sum != first && sum != second
-    }
-
-    fn items(&self) -> [Item<'_>; 25]
-        ensures { lexemes_of result ≡ program_lexemes (denoted self.now) }
-    {
-        let first = Item::Word(self.first.bytes());
-        let second = Item::Word(self.second.bytes());
-        let sum = Item::Word(self.sum.bytes());
-        let columns = Item::Number(self.columns);
-        [
-            Item::Word(b"input"),
-            first,
-            Item::Word(b"u8"),
-            Item::Sign(b"["),
-            Item::Number(1),
-            Item::Sign(b","),
-            columns,
-            Item::Sign(b"]"),
-            Item::Sign(b";"),
-            Item::Word(b"input"),
-            second,
-            Item::Word(b"u8"),
-            Item::Sign(b"["),
-            Item::Number(1),
-            Item::Sign(b","),
-            columns,
-            Item::Sign(b"]"),
-            Item::Sign(b";"),
-            Item::Word(b"output"),
-            sum,
-            Item::Sign(b"="),
-            first,
-            Item::Sign(b"+"),
-            second,
-            Item::Sign(b";"),
-        ]
-    }
-
     /// How many bytes of scratchpad the addition needs.
     pub fn need(&self) -> u64
-        ensures { result ≡ need_of (denoted self.now) }
+        ensures { result ≡ addition_need (denoted self.now) }
     {
-        7 * u64::from(self.columns)
+        7 * u64::from(self.shape.cols)
     }
 }
 
-fn word_at(items: &[Item], k: usize) -> Option<Name>
-    ensures { MatchOption result
-        ((name : List ℕ) → IsName name → slice_get (lexemes_of items.now) k ≡ Some (Word name) → ⊥)
-        (λ name. slice_get (lexemes_of items.now) k ≡ Some (Word name)) }
+/// Whether the statement is an input of bytes in this shape.
+fn is_input(stmt: &CheckedStmt, shape: Shape) -> bool
+    requires { IsWhole stmt.now }
+    ensures { IsTrue result ↔ (statement_of stmt.now ≡ Input stmt.now.name elems.U8 shape) }
 {
-    match items.get(k) {
-        Some(Item::Word(bytes)) => Name::from_bytes(bytes),
-        _ => None,
+    stmt.kind == StmtKind::Input && stmt.elem == Elem::U8 && stmt.shape == shape
+}
+
+/// Whether the statement is the output of the sum.
+fn is_sum(stmt: &CheckedStmt, shape: Shape) -> bool
+    requires { IsWhole stmt.now }
+    ensures { IsTrue result ↔ (statement_of stmt.now ≡ Output stmt.now.name (sum_node shape)) }
+{
+    match &stmt.value {
+        None => false,
+        Some(value) => stmt.kind == StmtKind::Output && is_sum_node(value, shape),
     }
 }
 
-fn number_at(items: &[Item], k: usize) -> Option<u32>
-    ensures { MatchOption result ((n : ℕ) → slice_get (lexemes_of items.now) k ≡ Some (Number n) → ⊥)
-        (λ n. slice_get (lexemes_of items.now) k ≡ Some (Number n)) }
+fn is_sum_node(value: &Typed, shape: Shape) -> bool
+    ensures { IsTrue result ↔ (node_of value.now ≡ sum_node shape) }
 {
-    match items.get(k) {
-        Some(Item::Number(n)) => Some(*n),
-        _ => None,
+    match &value.kind {
+        TypedKind::Two(op, a, b) => {
+            *op == Op2::Add
+                && value.elem == Elem::U8
+                && value.shape == shape
+                && is_name(a, shape, 0)
+                && is_name(b, shape, 1)
+        }
+        _ => false,
+    }
+}
+
+/// Whether the expression is the name that statement `k` declares.
+fn is_name(value: &Typed, shape: Shape, k: u32) -> bool
+    ensures { IsTrue result ↔ (node_of value.now ≡ nodes.Name elems.U8 shape k) }
+{
+    match &value.kind {
+        TypedKind::Name(n) => *n == k && value.elem == Elem::U8 && value.shape == shape,
+        _ => false,
     }
 }

@@ -11,6 +11,12 @@ use crate::request::request_of;
 pub enum Command {
     /// `run PROGRAM INPUTS IMAGE LANES SPAD`: 1 to 4 lanes, a scratchpad of 1 to 1,048,576 bytes.
     Run { lanes: u32, spad: u32 },
+    /// `eval PROGRAM INPUTS`.
+    Eval,
+    /// `check PROGRAM SPAD`: a scratchpad of 1 to 1,048,576 bytes.
+    Check { spad: u32 },
+    /// `explain PROGRAM`.
+    Explain,
 }
 
 /// The command that the words spell, or `None` exactly where they spell none. It takes no memory.

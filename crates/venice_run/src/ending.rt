@@ -5,6 +5,9 @@ ghost use Rattle.venice_run.specs.Line.{status_of, line_of};
 
 use crate::line::{Part, line_with, refusal_line};
 use crate::refusal::{Refusal, Shortage};
+use array_file::ArrayFault;
+use array_syntax::ParseFault;
+use shape_check::CheckFault;
 use std::alloc::{AllocError, AllocFailed, Global};
 
 /// A fault of the outside.
@@ -28,8 +31,8 @@ pub(crate) const MEMORY_STATUS: u8 = 10;
 
 impl Ending {
     /// The status that the program ends with.
-    pub fn status(self) -> u8
-        ensures { result ≡ status_of self }
+    pub fn status(&self) -> u8
+        ensures { result ≡ status_of self.now }
     {
         match self {
             Ending::Refused(refusal) => refusal.status(),
@@ -80,5 +83,44 @@ impl From<Shortage> for Ending {
 
     fn from(shortage: Shortage) -> Ending {
         Ending::Refused(Refusal::Scratchpad(shortage))
+    }
+}
+
+impl From<ParseFault> for Ending {
+    ghost use Rattle.venice_run.specs.Endings.{parse_ending};
+
+    ghost from_gives = { λ fault ending. ending ≡ parse_ending fault };
+
+    fn from(fault: ParseFault) -> Ending {
+        match fault {
+            ParseFault::Memory => Ending::Failed(Fault::Memory),
+            fault => Ending::Refused(Refusal::Parse(fault)),
+        }
+    }
+}
+
+impl From<CheckFault> for Ending {
+    ghost use Rattle.venice_run.specs.Endings.{check_ending};
+
+    ghost from_gives = { λ fault ending. ending ≡ check_ending fault };
+
+    fn from(fault: CheckFault) -> Ending {
+        match fault {
+            CheckFault::Memory => Ending::Failed(Fault::Memory),
+            fault => Ending::Refused(Refusal::Check(fault)),
+        }
+    }
+}
+
+impl From<ArrayFault> for Ending {
+    ghost use Rattle.venice_run.specs.Endings.{array_ending};
+
+    ghost from_gives = { λ fault ending. ending ≡ array_ending fault };
+
+    fn from(fault: ArrayFault) -> Ending {
+        match fault {
+            ArrayFault::Memory => Ending::Failed(Fault::Memory),
+            fault => Ending::Refused(Refusal::Arrays(fault)),
+        }
     }
 }

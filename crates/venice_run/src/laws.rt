@@ -4,12 +4,19 @@ ghost use Rattle.venice_run.specs.Laws.{HasOneAnswer, LinesAreTheText, Completes
 ghost use Rattle.venice_run.specs.Promise.{moment};
 ghost use Rattle.venice_run.specs.Words.{texts_of};
 
+use expr_split::split_laws;
+use shape_check::check_laws;
 use ven_io::{Files, Sink};
 
 /// Where files show one thing a name, words have at most one answer or refusal, failed loads and want of memory apart.
 pub fn one_answer<F: Files>()
     ensures { HasOneAnswer F.behaviour }
-{}
+{
+    array_syntax::one_reading();
+    check_laws();
+    array_file::one_reading();
+    split_laws();
+}
 
 /// The lines that a text is put in are the text.
 pub fn lines_are_the_text()

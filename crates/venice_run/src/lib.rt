@@ -9,42 +9,50 @@
 //! `venice` has one clause, `promise`, which is the record `Promise` (specs/Promise.antt):
 //!
 //! - `outcome` is what the call means to say: an answer, why there is none, or that its save failed.
-//! - `comes`: the outcome is what the words come to by the files' content (`answer_to` in specs/Commands.antt): the answer
-//!   of the command that they spell, or the first refusal in the command's order of stages. The one save comes after all
-//!   stages and before anything is put; else no file has changed. That memory ran out may stand in place of each.
+//! - `comes`: the outcome is what the words come to by the files' content (`answer_to` in specs/Commands.antt): the
+//!   answer of the command that they spell, or the first refusal in the command's order of stages. The one save comes
+//!   after all stages and before anything is put; else no file has changed. That memory ran out may stand in place of
+//!   each.
 //! - `loads`: exactly one load has failed where `error: file` is meant, else none. `saves`: exactly one save has failed
 //!   where `error: save` is meant, else none.
-//! - `says`: the sink took the answer's lines, or the line of the refusal or fault, each line as one piece, and the status
-//!   is its own; or a put failed, a prefix of the lines was taken up to somewhere in one line, nothing was put after it, and
-//!   the status is 9; or memory ran out between two lines, with status 10. Where memory for a line ran out, memory's line
-//!   is said in its place.
+//! - `says`: the sink took the answer's lines, or the line of the refusal or fault, each line as one piece, and the
+//!   status is its own; or a put failed, a prefix of the lines was taken up to somewhere in one line, nothing was put
+//!   after it, and the status is 9; or memory ran out between two lines, with status 10. Where there is no memory for a
+//!   line, the line of memory that ran out is put in its place.
 //!
-//! Commands only read (`OnlyLoads`) and answer an `Answer`: a save, a text, and the refusal that the text ends in, where
-//! it ends in one. docs/ARCHITECTURE.md says how a command is added.
+//! The commands are `eval`, `check`, `explain` and `run`. Each has its stages, in the order of its refusals, as a definition in
+//! the file of its name in `specs`; `Programs`, `Inputs` and `Plan` there have the stages that commands share.
 //!
-//! Laws, each a function: `one_answer` (where the files show one thing a name, words have one answer or refusal, apart from
-//! faults), `lines_are_the_text` (the lines that are put are the text), `promise_is_complete` (`complete`: where nothing may
-//! fail, no fault is counted, and the words are answered or refused in full, or memory ran out; `never`: status 15 is not the
-//! top call's).
+//! Commands only read (`OnlyLoads`) and answer an `Answer`: a save, a text, and the refusal that the text ends in,
+//! where it ends in one. docs/ARCHITECTURE.md says how a command is added.
 //!
-//! Beside it: `read_words` gives the command that the words spell, and none exactly where they spell none. `Ending::status`,
-//! `Ending::line` and `Refusal::status` have each status and line. `one_tile` is the list of nine issues that adds two arrays
-//! of up to 2,048 bytes, and `one_tile_adds` says that done in order it leads from every store that holds the two arrays to
-//! one that has the wrapped sums at their place and every other byte of memory as it was, and to no other. That `run` goes by
-//! this list no contract of `venice` says; only the inner ones do.
+//! Laws, each a function: `one_answer` (where the files show one thing a name, words have one answer or refusal, apart
+//! from faults), `lines_are_the_text` (the lines that are put are the text), `promise_is_complete` (`complete`: where
+//! nothing may fail, no fault is counted, and the words are answered or refused in full, or memory ran out; `never`:
+//! status 15 is not the top call's).
+//!
+//! Beside it: `read_words` gives the command that the words spell, and none exactly where they spell none.
+//! `Ending::status`, `Ending::line` and `Refusal::status` have each status and line. `one_tile` is the list of nine
+//! issues that adds two arrays of up to 2,048 bytes, and `one_tile_adds` says that done in order it leads from every
+//! store that holds the two arrays to one that has the wrapped sums at their place and every other byte of memory as it
+//! was, and to no other. That `run` goes by this list no contract of `venice` says; only the inner ones do.
 #![tactic(auto)]
 
 mod addition;
 mod answer;
+mod check;
 mod command;
 mod ending;
+mod eval;
 mod executor;
-mod items;
+mod explain;
+mod inputs;
 mod laws;
 mod line;
 mod lines;
-mod operands;
 mod output;
+mod plan;
+mod programs;
 mod reading;
 mod refusal;
 mod request;

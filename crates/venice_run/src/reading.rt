@@ -1,10 +1,10 @@
 //! What the commands load.
 
-ghost use Rattle.std.specs.Prelude.{◌≡◌, IsErrOf};
+ghost use Rattle.std.specs.Prelude.{◌≡◌, ◌≤◌, length, IfOk, IsErrOf};
 ghost use Rattle.std.specs.Option.{option_map};
 ghost use Rattle.ven_io.specs.Files.{OnlyLoads};
-ghost use Rattle.venice_run.specs.Reading.{shown, loads, limit_of, program_limit, file_limit};
-ghost use Rattle.venice_run.specs.Stage.{answered};
+ghost use Rattle.venice_run.specs.Reading.{text_under, loads, limit_of, program_limit, file_limit};
+ghost use Rattle.venice_run.specs.Stage.{as_stage};
 
 use crate::ending::{Ending, Fault};
 use crate::refusal::{Kind, Refusal};
@@ -30,15 +30,15 @@ impl Kind {
 }
 
 /// The whole text under the name, or `None` where it has more bytes than the limit. Its bytes aren't looked at.
-#[tactic(auto, unfolding(crate::specs::Reading::shown))]
+#[tactic(auto, unfolding(crate::specs::Reading::text_under))]
 pub(crate) fn load_text<F: Files>(
     alloc: Global,
     files: &mut F,
     name: &str,
     limit: u32,
 ) -> Result<Option<Vec<u8>>, Ending>
-    ensures read { shown (F.behaviour (F.state files.old).content) name.now limit
-        (answered (option_map (λ text. text.items)) result) }
+    ensures read { text_under (F.behaviour (F.state files.old).content) name.now limit
+        (as_stage (option_map (λ text. text.items)) result) }
     ensures only { OnlyLoads (F.state files.old) (F.state files.new) (IsErrOf result (Ending.Failed Fault.File)) }
 {
     match files.load(alloc, name, u64::from(limit)) {
@@ -58,8 +58,9 @@ pub(crate) fn load_within<F: Files>(
     kind: Kind,
 ) -> Result<Vec<u8>, Ending>
     ensures read { loads (F.behaviour (F.state files.old).content) name.now kind
-        (answered (λ text. text.items) result) }
+        (as_stage (λ text. text.items) result) }
     ensures only { OnlyLoads (F.state files.old) (F.state files.new) (IsErrOf result (Ending.Failed Fault.File)) }
+    ensures short { IfOk result (λ text. length text.items ≤ limit_of kind) }
 {
     match load_text(alloc, files, name, kind.limit())? {
         Some(text) => Ok(text),

@@ -3,6 +3,10 @@
 ghost use Rattle.std.specs.Prelude.{◌≡◌};
 ghost use Rattle.venice_run.specs.Line.{kind_word, kind_status, refusal_status};
 
+use array_file::{ArrayFault, FitFault};
+use array_syntax::ParseFault;
+use shape_check::CheckFault;
+
 /// The kinds of texts and files that commands read. Each has a limit on its length, a word and a status.
 #[derive(Clone, Copy, Debug, PartialEq, Eq)]
 pub enum Kind {
@@ -30,10 +34,18 @@ pub enum Refusal {
     FileMissing,
     /// A text is longer than its kind may be.
     TooLong(Kind),
-    /// A text isn't of the one form that `run` reads.
-    Form(Kind),
+    /// The program's text has this fault.
+    Parse(ParseFault),
+    /// The program breaks this rule.
+    Check(CheckFault),
+    /// The program isn't of the one form that `run` can do.
+    Form,
     /// The scratchpad has fewer bytes than the program needs.
     Scratchpad(Shortage),
+    /// The array file has this fault.
+    Arrays(ArrayFault),
+    /// The arrays don't fit the program's inputs.
+    Fit(FitFault),
 }
 
 impl Kind {
@@ -68,8 +80,10 @@ impl Refusal {
         match self {
             Refusal::Usage => 2,
             Refusal::FileMissing => 8,
-            Refusal::TooLong(kind) | Refusal::Form(kind) => kind.status(),
+            Refusal::TooLong(kind) => kind.status(),
+            Refusal::Parse(_) | Refusal::Check(_) | Refusal::Form => 3,
             Refusal::Scratchpad(_) => 5,
+            Refusal::Arrays(_) | Refusal::Fit(_) => 4,
         }
     }
 }

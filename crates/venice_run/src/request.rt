@@ -2,7 +2,7 @@
 
 ghost use Rattle.std.specs.Prelude.{◌≡◌, ◌↔◌, ℕ, decimal, IsTrue, MatchOption};
 ghost use Rattle.venice_run.specs.Words.{texts_of, Spells, IsUpTo, command_of};
-ghost use Rattle.venice_run.specs.Requests.{IsRun};
+ghost use Rattle.venice_run.specs.Requests.{IsRun, IsEval, IsCheck, IsExplain};
 
 use crate::command::Command;
 use itoa::Buffer;
@@ -23,6 +23,17 @@ pub(crate) enum Request<'a> {
         lanes: u32,
         spad: u32,
     },
+    Eval {
+        program: &'a str,
+        inputs: &'a str,
+    },
+    Check {
+        program: &'a str,
+        spad: u32,
+    },
+    Explain {
+        program: &'a str,
+    },
 }
 
 impl Request<'_> {
@@ -31,6 +42,9 @@ impl Request<'_> {
     {
         match self {
             Request::Run { lanes, spad, .. } => Command::Run { lanes, spad },
+            Request::Eval { .. } => Command::Eval,
+            Request::Check { spad, .. } => Command::Check { spad },
+            Request::Explain { .. } => Command::Explain,
         }
     }
 }
@@ -40,7 +54,16 @@ pub(crate) fn request_of(words: &[String]) -> Option<Request<'_>>
     ensures { MatchOption result ((request : Request) → ¬ Spells (texts_of words.now) request)
         (Spells (texts_of words.now)) }
 {
-    run_request(words)
+    if let Some(request) = run_request(words) {
+        return Some(request);
+    }
+    if let Some(request) = eval_request(words) {
+        return Some(request);
+    }
+    if let Some(request) = check_request(words) {
+        return Some(request);
+    }
+    explain_request(words)
 }
 
 fn run_request(words: &[String]) -> Option<Request<'_>>
@@ -62,6 +85,46 @@ fn run_request(words: &[String]) -> Option<Request<'_>>
         lanes,
         spad,
     })
+}
+
+fn eval_request(words: &[String]) -> Option<Request<'_>>
+    ensures { MatchOption result ((request : Request) → IsEval request → ¬ Spells (texts_of words.now) request)
+        (Spells (texts_of words.now)) }
+{
+    let [word, program, inputs] = words else {
+        return None;
+    };
+    if word.as_str() != "eval" {
+        return None;
+    }
+    Some(Request::Eval { program, inputs })
+}
+
+fn check_request(words: &[String]) -> Option<Request<'_>>
+    ensures { MatchOption result ((request : Request) → IsCheck request → ¬ Spells (texts_of words.now) request)
+        (Spells (texts_of words.now)) }
+{
+    let [word, program, spad] = words else {
+        return None;
+    };
+    if word.as_str() != "check" {
+        return None;
+    }
+    let spad = number_up_to(MOST_SCRATCHPAD, spad)?;
+    Some(Request::Check { program, spad })
+}
+
+fn explain_request(words: &[String]) -> Option<Request<'_>>
+    ensures { MatchOption result ((request : Request) → IsExplain request → ¬ Spells (texts_of words.now) request)
+        (Spells (texts_of words.now)) }
+{
+    let [word, program] = words else {
+        return None;
+    };
+    if word.as_str() != "explain" {
+        return None;
+    }
+    Some(Request::Explain { program })
 }
 
 /// The number from 1 to `most` that the text is the plain decimal of.

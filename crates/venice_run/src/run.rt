@@ -1,30 +1,34 @@
 //! The command `run`.
 
-ghost use Rattle.std.specs.Prelude.{◌≡◌, ◌≤◌, List, length, IfOk, IsErrOf, MatchOption};
+ghost use Rattle.std.specs.Prelude.{◌≡◌, map, pos, All, IfOk, IsErrOf};
+ghost use Rattle.ven_base.specs.declared.elem.Elem.TheVariants as elems;
+ghost use Rattle.ven_base.specs.Elem.{IsElement};
 ghost use Rattle.ven_io.specs.Files.{OnlyLoads};
-ghost use Rattle.ven_io.specs.Lexemes.{Lexeme, IsLexed};
-ghost use Rattle.venice_run.specs.Items.{lexemes_of, HasSmallNumbers};
-ghost use Rattle.venice_run.specs.Additions.{denoted, denoted_operands};
-ghost use Rattle.venice_run.specs.Addition.{IsAddition, AreValues, text_limit};
+ghost use Rattle.array_file.specs.Output.{arrays_text};
+ghost use Rattle.shape_check.specs.Checked.{program_of, IsWhole};
+ghost use Rattle.shape_check.specs.Meaning.{meaning_of, FitInputs, HasInput, input_array};
+ghost use Rattle.venice_run.specs.Addition.{IsAddition, addition_program};
+ghost use Rattle.venice_run.specs.Additions.{denoted};
 ghost use Rattle.venice_run.specs.Answer.{answer_of, prints};
-ghost use Rattle.venice_run.specs.Run.{addition_in, operands_in, addition_of, operands_of, HasRoom, has_room, sum_text as sum_text_lem, run as run_lem};
-ghost use Rattle.venice_run.specs.Stage.{answered};
+ghost use Rattle.venice_run.specs.Run.{addition_in, run as run_lem};
+ghost use Rattle.venice_run.specs.Stage.{as_stage};
 
 use crate::addition::Addition;
 use crate::answer::Answer;
 use crate::ending::{Ending, Fault};
-use crate::items::items_of;
-use crate::operands::Operands;
-use crate::output::one_row_text;
-use crate::reading::{PROGRAM_LIMIT, load_text};
-use crate::refusal::{Kind, Refusal, Shortage};
+use crate::inputs::read_inputs;
+use crate::plan::need_room;
+use crate::programs::read_program;
+use crate::refusal::Refusal;
 use crate::sums::sums_by_tile;
+use array_file::write_arrays;
+use shape_check::CheckedStmt;
 use std::alloc::{AllocError, Global};
-use ven_base::Elem;
+use ven_base::{Array, Arrays, Elem, Name, Shape};
 use ven_io::Files;
 
-/// It prints the sums of the inputs of the addition that PROGRAM is, or comes to its first refusal.
-/// Files are only read.
+/// It prints the outputs of PROGRAM, an addition of two arrays, on INPUTS, or comes to its first refusal. Files are only
+/// read.
 pub(crate) fn run<'a, F: Files>(
     alloc: Global,
     files: &mut F,
@@ -33,113 +37,83 @@ pub(crate) fn run<'a, F: Files>(
     spad: u32,
 ) -> Result<Answer<'a>, Ending>
     ensures answer { run_lem (F.behaviour (F.state files.old).content) program.now inputs.now spad
-        (answered answer_of result) }
+        (as_stage answer_of result) }
     ensures only { OnlyLoads (F.state files.old) (F.state files.new) (IsErrOf result (Ending.Failed Fault.File)) }
 {
-    let addition = read_addition(alloc, files, program)?;
-    need_room(&addition, spad)?;
-    let operands = read_operands(alloc, files, inputs, &addition)?;
-    print_sums(alloc, &addition, &operands)
+    let checked = read_program(alloc, files, program)?;
+    let addition = addition_of(&checked.stmts)?;
+    need_room(addition.need(), spad)?;
+    let arrays = read_inputs(alloc, files, inputs, &checked)?;
+    print_sums(alloc, &addition, &arrays)
 }
 
-fn read_addition<F: Files>(alloc: Global, files: &mut F, name: &str) -> Result<Addition, Ending>
-    ensures read { addition_of (F.behaviour (F.state files.old).content) name.now (answered denoted result) }
-    ensures only { OnlyLoads (F.state files.old) (F.state files.new) (IsErrOf result (Ending.Failed Fault.File)) }
-    ensures lawful { IfOk result (λ addition. IsAddition (denoted addition)) }
+/// The addition that the program is.
+fn addition_of(stmts: &[CheckedStmt]) -> Result<Addition, Ending>
+    requires { All IsWhole stmts.now }
+    ensures { addition_in (program_of stmts.now) (as_stage denoted result) }
 {
-    match load_text(alloc, files, name, PROGRAM_LIMIT)? {
-        Some(text) => addition_of_text(alloc, &text),
-        None => Err(Ending::Refused(Refusal::Form(Kind::Program))),
-    }
-}
-
-fn read_operands<F: Files>(
-    alloc: Global,
-    files: &mut F,
-    name: &str,
-    addition: &Addition,
-) -> Result<Operands, Ending>
-    requires { IsAddition (denoted addition.now) }
-    ensures read { operands_of (F.behaviour (F.state files.old).content) name.now (denoted addition.now)
-        (answered denoted_operands result) }
-    ensures only { OnlyLoads (F.state files.old) (F.state files.new) (IsErrOf result (Ending.Failed Fault.File)) }
-    ensures first { IfOk result (λ operands. AreValues addition.now.columns operands.first.items) }
-    ensures second { IfOk result (λ operands. AreValues addition.now.columns operands.second.items) }
-{
-    match load_text(alloc, files, name, PROGRAM_LIMIT)? {
-        Some(text) => operands_of_text(alloc, &text, addition),
-        None => Err(Ending::Refused(Refusal::Form(Kind::Inputs))),
-    }
-}
-
-/// The addition whose program the text is.
-fn addition_of_text(alloc: Global, text: &[u8]) -> Result<Addition, Ending>
-    requires { length text.now ≤ text_limit }
-    ensures read { addition_in text.now (answered denoted result) }
-    ensures lawful { IfOk result (λ addition. IsAddition (denoted addition)) }
-{
-    let Some(items) = items_of(alloc, text)? else {
-        return Err(Ending::Refused(Refusal::Form(Kind::Program)));
-    };
-    match Addition::from_items(&items) {
+    match Addition::from_program(stmts) {
         Some(addition) => Ok(addition),
-        None => Err(Ending::Refused(Refusal::Form(Kind::Program))),
+        None => Err(Ending::Refused(Refusal::Form)),
     }
 }
 
-/// The values that the text gives to the inputs of the addition.
-fn operands_of_text(alloc: Global, text: &[u8], addition: &Addition) -> Result<Operands, Ending>
-    requires short { length text.now ≤ text_limit }
-    requires lawful { IsAddition (denoted addition.now) }
-    ensures read { operands_in text.now (denoted addition.now) (answered denoted_operands result) }
-    ensures first { IfOk result (λ operands. AreValues addition.now.columns operands.first.items) }
-    ensures second { IfOk result (λ operands. AreValues addition.now.columns operands.second.items) }
+fn print_sums<'a>(alloc: Global, addition: &Addition, inputs: &Arrays) -> Result<Answer<'a>, Ending>
+    requires form { IsAddition (addition_program (denoted addition.now)) (denoted addition.now) }
+    requires fits { FitInputs (addition_program (denoted addition.now)) inputs.now }
+    ensures { prints (arrays_text (meaning_of (addition_program (denoted addition.now)) inputs.now))
+        (as_stage answer_of result) }
 {
-    let Some(items) = items_of(alloc, text)? else {
-        return Err(Ending::Refused(Refusal::Form(Kind::Inputs)));
+    let outputs = sums(alloc, addition, inputs)?;
+    let text = write_arrays(alloc, &outputs)?;
+    Ok(Answer::printing(text))
+}
+
+/// The output of the addition, made by the tile.
+fn sums(alloc: Global, addition: &Addition, inputs: &Arrays) -> Result<Arrays, AllocError>
+    requires form { IsAddition (addition_program (denoted addition.now)) (denoted addition.now) }
+    requires fits { FitInputs (addition_program (denoted addition.now)) inputs.now }
+    ensures { IfOk result (λ outputs. outputs ≡ meaning_of (addition_program (denoted addition.now)) inputs.now) }
+{
+    let shape = addition.shape;
+    let first = bytes_of(alloc, inputs, &addition.first, shape)?;
+    let second = bytes_of(alloc, inputs, &addition.second, shape)?;
+    let values = sums_by_tile(alloc, &first, &second)?;
+    let mut outputs = Arrays::new(alloc);
+    let sum = Array {
+        elem: Elem::U8,
+        shape,
+        values,
     };
-    match Operands::from_items(alloc, &items, addition)? {
-        Some(operands) => Ok(operands),
-        None => Err(Ending::Refused(Refusal::Form(Kind::Inputs))),
-    }
+    outputs.add(addition.sum, sum)?;
+    Ok(outputs)
 }
 
-fn need_room(addition: &Addition, spad: u32) -> Result<(), Ending>
-    ensures { has_room (denoted addition.now) spad result }
-{
-    Ok(check_room(addition, spad)?)
-}
-
-fn check_room(addition: &Addition, spad: u32) -> Result<(), Shortage>
-    ensures { HasRoom (denoted addition.now) spad result }
-{
-    let need = addition.need();
-    if u64::from(spad) < need {
-        return Err(Shortage { need, have: spad });
-    }
-    Ok(())
-}
-
-fn print_sums<'a>(
+/// The bytes of the input with this name.
+fn bytes_of(
     alloc: Global,
-    addition: &Addition,
-    operands: &Operands,
-) -> Result<Answer<'a>, Ending>
-    requires lawful { IsAddition (denoted addition.now) }
-    requires first { AreValues addition.now.columns operands.now.first.items }
-    requires second { AreValues addition.now.columns operands.now.second.items }
-    ensures { prints (sum_text_lem (denoted addition.now) (denoted_operands operands.now)) (answered answer_of result) }
+    inputs: &Arrays,
+    name: &Name,
+    shape: Shape,
+) -> Result<Vec<u8>, AllocError>
+    requires { HasInput inputs.now name.now elems.U8 shape }
+    ensures { IfOk result
+        (λ bytes. map pos bytes.items ≡ (input_array inputs.now name.now elems.U8 shape).values) }
 {
-    Ok(Answer::printing(sum_text(alloc, addition, operands)?))
+    match inputs.get(name) {
+        Some(array) => numbers_as_bytes(alloc, &array.values),
+        None => unreachable!(),
+    }
 }
 
-/// The text of the sums that the addition prints.
-fn sum_text(alloc: Global, addition: &Addition, operands: &Operands) -> Result<Vec<u8>, AllocError>
-    requires lawful { IsAddition (denoted addition.now) }
-    requires first { AreValues addition.now.columns operands.now.first.items }
-    requires second { AreValues addition.now.columns operands.now.second.items }
-    ensures { IfOk result (λ text. text.items ≡ sum_text_lem (denoted addition.now) (denoted_operands operands.now)) }
+/// The bytes that numbers from 0 to 255 are.
+fn numbers_as_bytes(alloc: Global, numbers: &[i64]) -> Result<Vec<u8>, AllocError>
+    requires { All (IsElement elems.U8) numbers.now }
+    ensures { IfOk result (λ bytes. map pos bytes.items ≡ numbers.now) }
 {
-    let sums = sums_by_tile(alloc, &operands.first, &operands.second)?;
-    one_row_text(alloc, addition.sum.bytes(), Elem::U8, &sums)
+    let mut bytes = Vec::new(alloc);
+    for number in numbers {
+        bytes.push(*number as u8)?;
+    }
+    Ok(bytes)
 }

@@ -2,6 +2,7 @@
 
 ghost use Rattle.std.specs.Prelude.{◌≡◌, ◌+◌, ◌≤◌, length, map, pos, IfOk};
 ghost use Rattle.venice_isa.specs.Cell.{part};
+ghost use Rattle.venice_run.specs.Executor.{FitTile};
 ghost use Rattle.venice_run.specs.Output.{sums_of};
 ghost use Rattle.venice_run.specs.Tile.{first_place, second_place, sum_place};
 
@@ -16,9 +17,7 @@ pub(crate) fn sums_by_tile(
     first: &[u8],
     second: &[u8],
 ) -> Result<Vec<i64>, AllocError>
-    requires some { 1 ≤ length first.now }
-    requires few { length first.now ≤ 2048 }
-    requires one_length { length second.now ≡ length first.now }
+    requires { FitTile first.now second.now }
     ensures { IfOk result (λ sums. sums.items ≡ sums_of Elem.U8 first.now second.now) }
 {
     let cols = first.len() as u32;
@@ -31,9 +30,7 @@ pub(crate) fn sums_by_tile(
 
 /// Memory that holds the two arrays at their places, and has room for the sums.
 fn laid_out(alloc: Global, first: &[u8], second: &[u8]) -> Result<Vec<u8>, AllocError>
-    requires some { 1 ≤ length first.now }
-    requires few { length first.now ≤ 2048 }
-    requires one_length { length second.now ≡ length first.now }
+    requires { FitTile first.now second.now }
     ensures first { IfOk result (λ memory. part memory.items first_place (length first.now) ≡ first.now) }
     ensures second { IfOk result
         (λ memory. part memory.items (second_place (length first.now)) (length first.now) ≡ second.now) }

@@ -1,5 +1,7 @@
 //! The top call over files and sinks in memory, and the texts that it prints.
 
+mod commands;
+
 use crate::answer::{Answer, Save};
 use crate::reading::load_within;
 use crate::top::{save_answer, say};
@@ -73,7 +75,14 @@ fn sums_are_printed_for_each_number_of_lanes(rt: HostRuntime) -> Result<(), Fail
 #[test]
 fn other_words_are_usage(rt: HostRuntime) -> Result<(), Fail> {
     let alloc = rt.alloc();
-    let cases: [&[&str]; 12] = [
+    let cases: [&[&str]; 19] = [
+        &["eval"],
+        &["eval", "P"],
+        &["eval", "P", "I", "7"],
+        &["check", "P"],
+        &["check", "P", "07"],
+        &["check", "P", "1048577"],
+        &["explain", "P", "I"],
         &[],
         &["run"],
         &["run", "a", "b"],
@@ -93,47 +102,43 @@ fn other_words_are_usage(rt: HostRuntime) -> Result<(), Fail> {
         assert_eq!(rt; status, 2);
         assert_eq!(rt; text.as_slice(), b"error: usage\n".as_slice());
     }
-    let words = owned(alloc, &["run", "P", "I", "M", "4", "1048576"])?;
-    assert_eq!(rt;
-        read_words(&words),
-        Some(Command::Run {
-            lanes: 4,
-            spad: 1_048_576
-        })
-    );
     Ok(())
 }
 
-static OTHER_PROGRAMS: [&str; 7] = [
-    "",
-    "input a u8[1,4]; input b u8[1,4]; output y = a - b;",
-    "input a u8[1,4]; input a u8[1,4]; output y = a + a;",
-    "input a u8[1,4]; input b u8[1,4]; output sum = a + b;",
-    "input a u8[1,0]; input b u8[1,0]; output y = a + b;",
-    "input a u8[1,2049]; input b u8[1,2049]; output y = a + b;",
-    "# \u{e9}\ninput a u8[1,4]; input b u8[1,4]; output y = a + b;",
-];
+#[test]
+fn words_spell_their_command(rt: HostRuntime) -> Result<(), Fail> {
+    let alloc = rt.alloc();
+    let spad = 1_048_576;
+    let cases: [(&[&str], Command); 4] = [
+        (
+            &["run", "P", "I", "M", "4", "1048576"],
+            Command::Run { lanes: 4, spad },
+        ),
+        (&["eval", "P", "I"], Command::Eval),
+        (&["check", "P", "1048576"], Command::Check { spad }),
+        (&["explain", "P"], Command::Explain),
+    ];
+    for (words, command) in cases {
+        assert_eq!(rt; read_words(&owned(alloc, words)?), Some(command));
+    }
+    Ok(())
+}
 
-static OTHER_INPUTS: [&str; 4] = [
-    "",
-    "a u8[1,4] 1 2 3 250 b u8[1,4] 4 5 6",
-    "a u8[1,4] 1 2 3 256 b u8[1,4] 4 5 6 10",
-    "b u8[1,4] 1 2 3 250 a u8[1,4] 4 5 6 10",
+/// Programs that are accepted and aren't of the one form of `run`.
+static OTHER_PROGRAMS: [&str; 3] = [
+    "input a u8[1,4]; input b u8[1,4]; output y = a - b;",
+    "input a u8[1,4]; input b u8[1,4]; output y = b + a;",
+    "input a u8[1,2049]; input b u8[1,2049]; output y = a + b;",
 ];
 
 #[test]
-fn other_texts_are_of_no_form(rt: HostRuntime) -> Result<(), Fail> {
+fn run_refuses_other_forms(rt: HostRuntime) -> Result<(), Fail> {
     let alloc = rt.alloc();
     for program in &OTHER_PROGRAMS {
         // The scratchpad and INPUTS come later, whatever they are.
         let (status, text) = reply(alloc, &["run", "P", "no", "M", "4", "1"], program, INPUTS)?;
         assert_eq!(rt; status, 3, "{program}");
         assert_eq!(rt; text.as_slice(), b"error: program form\n".as_slice());
-    }
-    for inputs in &OTHER_INPUTS {
-        let (status, text) = reply(alloc, &["run", "P", "I", "M", "4", "28"], PROGRAM, inputs)?;
-        assert_eq!(rt; status, 4, "{inputs}");
-        assert_eq!(rt; text.as_slice(), b"error: inputs form\n".as_slice());
     }
     Ok(())
 }
@@ -145,7 +150,7 @@ static REFUSALS: [(&str, &str, &str, u8, &str); 6] = [
     ("P", "I", "27", 5, "error: scratchpad need 28 have 27\n"),
     ("P", "no", "27", 5, "error: scratchpad need 28 have 27\n"),
     ("P", "no", "28", 8, "error: file missing\n"),
-    ("P", "P", "28", 4, "error: inputs form\n"),
+    ("P", "P", "28", 4, "error: inputs unexpected at 0\n"),
 ];
 
 #[test]
@@ -193,13 +198,12 @@ fn padded(alloc: Global, text: &str, length: usize) -> Result<String, Fail> {
 }
 
 #[test]
-fn both_texts_have_up_to_65536_bytes(rt: HostRuntime) -> Result<(), Fail> {
+fn a_program_has_up_to_65536_bytes(rt: HostRuntime) -> Result<(), Fail> {
     let alloc = rt.alloc();
     // The lengths of the program and of the array file, the status and the text.
     let cases = [
-        (65_536, 65_536, 0, SUMS),
-        (65_537, 65_536, 3, "error: program form\n"),
-        (65_536, 65_537, 4, "error: inputs form\n"),
+        (65_536, 65_537, 0, SUMS),
+        (65_537, 65_537, 3, "error: program too long\n"),
     ];
     for (program, inputs, want, line) in cases {
         let program = padded(alloc, PROGRAM, program)?;
@@ -316,16 +320,7 @@ fn each_ending_has_its_status_and_line(rt: HostRuntime) -> Result<(), Fail> {
             6,
             "error: text too long\n",
         ),
-        (
-            Ending::Refused(Refusal::Form(Kind::Program)),
-            3,
-            "error: program form\n",
-        ),
-        (
-            Ending::Refused(Refusal::Form(Kind::Inputs)),
-            4,
-            "error: inputs form\n",
-        ),
+        (Ending::Refused(Refusal::Form), 3, "error: program form\n"),
         (
             Ending::Refused(Refusal::Scratchpad(shortage)),
             5,

@@ -6,11 +6,14 @@ ghost use Rattle.venice_run.specs.Answer.{answer_of};
 ghost use Rattle.venice_run.specs.Commands.{answer_to as answer_to_lem, stages_of};
 ghost use Rattle.venice_run.specs.Outcomes.{outcome_of, SaveEnds};
 ghost use Rattle.venice_run.specs.Promise.{Promise, moment, Comes, SaysOutcome, SaysEnding, Stopped, NotSaved};
-ghost use Rattle.venice_run.specs.Stage.{answered};
+ghost use Rattle.venice_run.specs.Stage.{as_stage};
 ghost use Rattle.venice_run.specs.Words.{texts_of};
 
 use crate::answer::{Answer, Save};
+use crate::check::check;
 use crate::ending::{Ending, Fault, MEMORY_STATUS};
+use crate::eval::eval;
+use crate::explain::explain;
 use crate::lines::{put_line, put_text};
 use crate::refusal::Refusal;
 use crate::request::{Request, request_of};
@@ -56,7 +59,7 @@ fn answer_to<'a, F: Files>(
     files: &mut F,
 ) -> Result<Answer<'a>, Ending>
     ensures answer { answer_to_lem (F.behaviour (F.state files.old).content) (texts_of words.now)
-        (answered answer_of result) }
+        (as_stage answer_of result) }
     ensures only { OnlyLoads (F.state files.old) (F.state files.new) (IsErrOf result (Ending.Failed Fault.File)) }
 {
     match request_of(words) {
@@ -71,7 +74,7 @@ fn comes_to<'a, F: Files>(
     files: &mut F,
     request: Request<'a>,
 ) -> Result<Answer<'a>, Ending>
-    ensures answer { stages_of (F.behaviour (F.state files.old).content) request.entry (answered answer_of result) }
+    ensures answer { stages_of (F.behaviour (F.state files.old).content) request.entry (as_stage answer_of result) }
     ensures only { OnlyLoads (F.state files.old) (F.state files.new) (IsErrOf result (Ending.Failed Fault.File)) }
 {
     match request {
@@ -81,6 +84,9 @@ fn comes_to<'a, F: Files>(
             spad,
             ..
         } => run(alloc, files, program, inputs, spad),
+        Request::Eval { program, inputs } => eval(alloc, files, program, inputs),
+        Request::Check { program, spad } => check(alloc, files, program, spad),
+        Request::Explain { program } => explain(alloc, files, program),
     }
 }
 
@@ -90,7 +96,7 @@ pub(crate) fn save_answer<'a, F: Files>(
     answer: Result<Answer<'a>, Ending>,
 ) -> Outcome<'a>
     ensures comes { Comes F.behaviour (F.state files.old).content (F.state files.new).content
-        (λ r. r ≡ answered answer_of answer.entry) (outcome_of result) }
+        (λ r. r ≡ as_stage answer_of answer.entry) (outcome_of result) }
     ensures only { OnlySaves (F.state files.old) (F.state files.new) (outcome_of result ≡ NotSaved) }
     ensures file { IsErrOf answer.entry (Ending.Failed Fault.File)
         ↔ (outcome_of result ≡ Stopped (Ending.Failed Fault.File)) }
@@ -130,8 +136,9 @@ pub(crate) fn say<S: Sink>(alloc: Global, outcome: Outcome<'_>, out: &mut S) -> 
 fn say_ending<S: Sink>(alloc: Global, ending: Ending, out: &mut S) -> u8
     ensures { SaysEnding (S.state out.old) (S.state out.new) ending result }
 {
+    let status = ending.status();
     match ending.line(alloc) {
-        Ok(line) => put_line(ending.status(), &line, out),
+        Ok(line) => put_line(status, &line, out),
         Err(_) => put_line(MEMORY_STATUS, MEMORY_LINE, out),
     }
 }

@@ -3,4 +3,16 @@ use Rattle.venice_run.proofs.laws.one_answer.Goals as goal
 
 pub returns : goal.returns
 returns g c = λ content shows words first second comes comes_too plain plain_too.
-    (answer_lawful (g.F.Files.behaviour content) words).once shows first second comes comes_too plain plain_too
+    (answer_lawful (g.F.Files.behaviour content) words).once
+    (record {
+      shows = shows;
+      programs = c.one_reading.ensures;
+      typings = c.check_laws.ensures.one_typing;
+      first_faults = c.check_laws.ensures.one_first_fault;
+      no_fault = c.check_laws.ensures.no_fault;
+      arrays = c.one_reading-2.ensures.one;
+      at_faults = c.one_reading-2.ensures.at_faults;
+      array_answers = c.one_reading-2.ensures.answer;
+      splits = c.split_laws.ensures.one;
+    })
+    first second comes comes_too plain plain_too

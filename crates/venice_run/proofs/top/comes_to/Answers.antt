@@ -1,0 +1,13 @@
+use Rattle.venice_run.proofs.top.comes_to.Goals as goal
+
+pub returns-in-Run-clause-answer : goal.returns-in-Run-clause-answer
+returns-in-Run-clause-answer g c = rw c.in-Run.is c.run.ensures.answer
+
+pub returns-in-Eval-clause-answer : goal.returns-in-Eval-clause-answer
+returns-in-Eval-clause-answer g c = rw c.in-Eval.is c.eval.ensures.answer
+
+pub returns-in-Check-clause-answer : goal.returns-in-Check-clause-answer
+returns-in-Check-clause-answer g c = rw c.in-Check.is c.check.ensures.answer
+
+pub returns-in-Explain-clause-answer : goal.returns-in-Explain-clause-answer
+returns-in-Explain-clause-answer g c = rw c.in-Explain.is c.explain.ensures.answer

@@ -1,0 +1,54 @@
+What the documents show of the program is what it prints.
+
+  $ venice() { "$TESTDIR/../../venice" "$@"; }
+  $ cp -r "$TESTDIR/../../README.md" "$TESTDIR/../../docs" "$TESTDIR/../../examples" .
+  $ blocks() { awk '/^```/ { inside = !inside; if (!inside) print "```"; next } inside' "$1"; }
+
+README shows two files as they are, and commands with their output.
+
+  $ blocks README.md | awk -v RS='```\n' '/^# A 3 by 3 blur/' | grep . | cmp - examples/blur.ven
+  $ blocks README.md | awk -v RS='```\n' '/^# One white square/' | grep . | cmp - examples/blur.arrays
+  $ blocks README.md | awk '/^\$ \.\/venice/ { shown = 1 } /^```/ { shown = 0 } shown' > shown
+  $ grep -c '^\$' shown
+  3
+  $ grep '^\$' shown | while read -r sign program words; do echo "$sign $program $words"; venice $words; done | cmp - shown
+
+Each rule of a program that docs/LANGUAGE.md lists has an example and its line.
+
+  $ sed -n 's/^| .* | `\([^`]*;\)` | `\(error: [^`]*\)` |$/\1\n\2/p' docs/LANGUAGE.md > rules
+  $ grep -c error rules
+  11
+  $ while read -r text && read -r want; do
+  >   printf '%s' "$text" > try.ven
+  >   line=$(venice check try.ven 1000)
+  >   [ "$line" = "$want" ] || echo "$text: $want, but it is $line"
+  > done < rules
+
+So has each fault of a program's text that is short enough, with its place.
+
+  $ sed -n 's/^| \([a-z ]*\) | .* | `\(let [^`]*\)` | \([0-9]*\) |$/\1 at \3\n\2/p' docs/LANGUAGE.md > faults
+  $ grep -c ' at ' faults
+  4
+  $ while read -r want && read -r text; do
+  >   printf '%s' "$text" > try.ven
+  >   line=$(venice check try.ven 1000)
+  >   [ "$line" = "error: program $want" ] || echo "$text: $want, but it is $line"
+  > done < faults
+
+docs/FORMATS.md lists the faults of an array file with an example each.
+
+  $ echo 'input a u8[1,1]; output y = a;' > one.ven
+  $ sed -n 's/^| .* | `\([^`]*\)`: \([a-z ]*[0-9]*\)[^|]* |$/\1\n\2/p' docs/FORMATS.md > faults
+  $ grep -c '^[a-z]* u8' faults
+  7
+  $ while read -r text && read -r want; do
+  >   printf '%s' "$text" > try.arrays
+  >   echo "$want: $(venice eval one.ven try.arrays)"
+  > done < faults
+  unexpected at 14: error: inputs unexpected at 14
+  unexpected at 0: error: inputs unexpected at 0
+  unexpected at 11: error: inputs unexpected at 11
+  unexpected at 4: error: inputs unexpected at 4
+  twice: error: inputs twice a
+  out of type at 10: error: inputs out of type at 10
+  count: error: inputs count a need 2 have 1
