@@ -6,6 +6,7 @@ ghost use Rattle.venice_isa.specs.Element.{little_endian, low_bytes};
 ghost use Rattle.lane_machine.specs.Elements.{element_bytes, element_in};
 
 use ven_base::{Elem, number_of};
+use venice_isa::VecOp;
 
 /// The most bytes that a beat takes: four lanes of 4 bytes.
 pub(crate) const MOST_BYTES: usize = 16;
@@ -43,6 +44,20 @@ pub(crate) fn put(elem: Elem, bytes: &mut Bytes, k: u32, bits: u32)
         Elem::U8 | Elem::I8 => put_one(bytes, k as usize, bits),
         Elem::U16 | Elem::I16 => put_two(bytes, 2 * k as usize, bits),
         Elem::U32 | Elem::I32 => put_four(bytes, 4 * k as usize, bits),
+    }
+}
+
+/// The same of an operation's answer. One of two bytes that is 0 or 1 is put as a word: the compiler
+/// would make single stores of its bytes, for which the next load of the group has to wait.
+#[inline(always)]
+pub(crate) fn put_answer(op: VecOp, elem: Elem, bytes: &mut Bytes, k: u32, bits: u32)
+    requires { (k + 1) * size_of elem ≤ 16 }
+    ensures { bytes.new ≡ overwritten bytes.old (k * size_of elem) (low_bytes (size_of elem) bits) }
+{
+    if op.is_comparison() && elem.size() == 2 {
+        put_word(bytes, 2 * k as usize, bits);
+    } else {
+        put(elem, bytes, k, bits);
     }
 }
 
@@ -103,14 +118,20 @@ fn put_two(bytes: &mut Bytes, at: usize, bits: u32)
 }
 
 #[inline(always)]
+fn put_word(bytes: &mut Bytes, at: usize, bits: u32)
+    requires { at + 2 ≤ 16 }
+    ensures { bytes.new ≡ overwritten bytes.old at (low_bytes 2 bits) }
+{
+    let word = (bits % 0x1_0000) as u16;
+    bytes[at..at + 2].copy_from_slice(&word.to_le_bytes());
+}
+
+#[inline(always)]
 fn put_four(bytes: &mut Bytes, at: usize, bits: u32)
     requires { at + 4 ≤ 16 }
     ensures { bytes.new ≡ overwritten bytes.old at (low_bytes 4 bits) }
 {
-    bytes[at] = (bits % 256) as u8;
-    bytes[at + 1] = (bits / 256 % 256) as u8;
-    bytes[at + 2] = (bits / 256 / 256 % 256) as u8;
-    bytes[at + 3] = (bits / 256 / 256 / 256 % 256) as u8;
+    bytes[at..at + 4].copy_from_slice(&bits.to_le_bytes());
 }
 
 pub(crate) struct TypeU8;

@@ -5,7 +5,8 @@ ghost use Rattle.venice_isa.specs.declared.op.VecOp.TheVariants.{Cast};
 ghost use Rattle.lane_machine.specs.Elements.{element_in, wider, HasSpelled};
 
 use crate::element::{
-    Bytes, Element, MOST_BYTES, TypeI8, TypeI16, TypeI32, TypeU8, TypeU16, TypeU32, number, put,
+    Bytes, Element, MOST_BYTES, TypeI8, TypeI16, TypeI32, TypeU8, TypeU16, TypeU32, number,
+    put_answer,
 };
 use ven_base::{Elem, bits_of};
 use venice_isa::{VecKind, VecOp, answer_of};
@@ -100,7 +101,7 @@ fn each<F: Element, E: Element>(op: VecOp, a: &Bytes, b: &Bytes, results: &mut B
     let mut answers = [0; MOST_BYTES];
     for k in 0..16 / elem.size().max(from.size()) {
         let n = answer_of(op, elem, number(from, a, k), number(elem, b, k));
-        put(elem, &mut answers, k, bits_of(elem, n));
+        put_answer(op, elem, &mut answers, k, bits_of(elem, n));
     }
     *results = answers;
 }

@@ -31,7 +31,7 @@ loop-k-preserved g c =
     ∙ ap (λ x. answer_of op as_elem x (to_z w64 (of_z w64 number_b))) (read_a ∙ c.number.ensures.value ∙ ap (λ from. element_in from a k) same_from)
     ∙ ap (λ y. answer_of op as_elem (element_in from a k) y) (read_b ∙ c.number-in-loop-k.ensures.value ∙ ap (λ elem. element_in elem b k) same_elem)
     ∙ ap (λ elem'. answer_of op elem' (element_in from a k) (element_in elem b k)) same_elem in
-    let is : c.put.new.bytes ≡ overwritten so_far (k * size_of elem) (bytes_of elem n) = c.put.ensures
+    let is : c.put_answer.new.bytes ≡ overwritten so_far (k * size_of elem) (bytes_of elem n) = c.put_answer.ensures
     ∙ ap (λ bits. overwritten so_far (k * size_of as_elem) (low_bytes (size_of as_elem) bits)) (c.bits_of.ensures.value ∙ ap (bits_of as_elem) read_n)
     ∙ ap (λ elem. overwritten so_far (k * size_of elem) (low_bytes (size_of elem) (bits_of elem n))) same_elem in
     let most : c.max-k-end.result ≡ wider elem from = omega (arith, c.max-k-end.ensures, c.size.ensures, c.size-2.ensures, ap size_of same_elem, ap size_of same_from) in
