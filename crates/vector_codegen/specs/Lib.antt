@@ -1,0 +1,9 @@
+pub mod Kind
+pub mod Work
+pub mod Root
+pub mod TileList
+pub mod Count
+pub mod Effect
+pub mod Laws
+pub mod Examples
+pub mod Fit
