@@ -1,0 +1,16 @@
+pub mod Flow
+pub mod Flights
+pub mod Disciplined
+pub mod Leaves
+pub mod Places
+pub mod Covers
+pub mod Few
+pub mod Planned
+pub mod LeafReads
+pub mod TileFills
+pub mod TileBlocks
+pub mod Splits
+pub mod Ready
+pub mod CodeLists
+pub mod CodePasses
+pub mod ExampleSplit
