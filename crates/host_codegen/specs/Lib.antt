@@ -1,0 +1,12 @@
+pub mod Contents
+pub mod Block
+pub mod BlockLaws
+pub mod Expr
+pub mod ExprLaws
+pub mod Program
+pub mod ProgramCode
+pub mod ProgramFits
+pub mod ProgramLaws
+pub mod Room
+pub mod Shown
+pub mod Coded
