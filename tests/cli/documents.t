@@ -38,7 +38,7 @@ So has each fault of a program's text that is short enough, with its place.
 docs/FORMATS.md lists the faults of an array file with an example each.
 
   $ echo 'input a u8[1,1]; output y = a;' > one.ven
-  $ sed -n 's/^| .* | `\([^`]*\)`: \([a-z ]*[0-9]*\)[^|]* |$/\1\n\2/p' docs/FORMATS.md > faults
+  $ sed '/^## Grants/,$d' docs/FORMATS.md | sed -n 's/^| .* | `\([^`]*\)`: \([a-z ]*[0-9]*\)[^|]* |$/\1\n\2/p' > faults
   $ grep -c '^[a-z]* u8' faults
   7
   $ while read -r text && read -r want; do
