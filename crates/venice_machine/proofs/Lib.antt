@@ -1,0 +1,15 @@
+pub mod Numbered
+pub mod Pieces
+pub mod Divided
+pub mod Queues
+pub mod Shown
+pub mod Hazards
+pub mod Sizes
+pub mod Turning
+pub mod Hosting
+pub mod Runs
+pub mod Cycling
+pub mod Canonical
+pub mod Stretches
+pub mod Inputs
+pub mod Outgoing

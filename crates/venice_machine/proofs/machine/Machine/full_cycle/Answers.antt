@@ -1,0 +1,5 @@
+use Rattle.venice_machine.proofs.Canonical.{cycle_advances}
+use Rattle.venice_machine.proofs.machine.Machine.full_cycle.Goals as goal
+
+pub returns-clause-advances : goal.returns-clause-advances
+returns-clause-advances c = cycle_advances c.args.self.now c.args.budget c.requires.going c.cycle.new.self c.cycle.ensures.state

@@ -1,0 +1,8 @@
+use Rattle.std.proofs.Common.{◌≡◌, take, false}
+use Rattle.std.specs.List.{list_any}
+use Rattle.venice_isa.specs.declared.issue.Issue.TheVariants.{Read}
+use Rattle.venice_isa.specs.Tests.{are_in_conflict}
+use Rattle.venice_machine.proofs.works.Works.has_read_against.Given as goal
+
+abbrev pub invariant-loop-k : goal.invariant-loop-k
+invariant-loop-k l = list_any (λ job. are_in_conflict (Read job.work) l.issue) (take l.k l.self.queues.reads.jobs) ≡ false

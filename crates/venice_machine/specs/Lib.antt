@@ -1,0 +1,12 @@
+pub mod State
+pub mod Start
+pub mod Step
+pub mod Run
+pub mod Units
+pub mod Machine
+pub mod Grants
+pub mod Reading
+pub mod Answers
+pub mod Kept
+pub mod Working
+pub mod Inside

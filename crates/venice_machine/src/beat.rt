@@ -1,0 +1,9 @@
+//! Which work a channel has gone on with.
+
+/// Which work of its queue a channel has done a beat of.
+#[derive(Clone, Copy, Debug, PartialEq, Eq)]
+pub(crate) enum Beat {
+    Nothing,
+    First,
+    Second,
+}
