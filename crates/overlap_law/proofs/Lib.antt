@@ -1,0 +1,15 @@
+pub mod Exchange
+pub mod Finishing
+pub mod Jobs
+pub mod Steps
+pub mod Moments
+pub mod Ends
+pub mod Discipline
+pub mod NoHazard
+pub mod Halting
+pub mod Unstopped
+pub mod InFlight
+pub mod EveryRun
+pub mod Races
+pub mod Firsts
+pub mod FirstMemory
