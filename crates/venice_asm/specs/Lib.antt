@@ -1,0 +1,17 @@
+pub mod Label
+pub mod Words
+pub mod Spelling
+pub mod Lines
+pub mod Canonical
+pub mod Meaning
+pub mod Faults
+pub mod Laws
+pub mod Stored
+pub mod Writing
+pub mod Fitting
+pub mod Parts
+pub mod Reading
+pub mod Memory
+pub mod Moves
+pub mod Steps
+pub mod Resolving
