@@ -1,5 +1,0 @@
-use Rattle.host_codegen.proofs.Codes.{programs_are_code}
-use Rattle.host_codegen.proofs.laws.code_laws.Goals as goal
-
-pub returns : goal.returns
-returns c = programs_are_code
