@@ -63,7 +63,35 @@ pub(crate) fn move_bytes(
     ensures { store_of cells.new memory.new ≡ moved direction cell place count (store_of cells.old memory.old) }
 {
     let mut bytes = [0; DmaWork::GROUP_BYTES as usize];
-    let bytes = &mut bytes[..count as usize];
+    if count == DmaWork::GROUP_BYTES {
+        pass(direction, cells, memory, cell, place, &mut bytes);
+    } else {
+        pass(
+            direction,
+            cells,
+            memory,
+            cell,
+            place,
+            &mut bytes[..count as usize],
+        );
+    }
+}
+
+/// Moves as many bytes as the buffer has, through it. A whole group is copied by moves of its size.
+#[inline(always)]
+fn pass(
+    direction: Direction,
+    cells: &mut Spad,
+    memory: &mut MainMem,
+    cell: u32,
+    place: u32,
+    bytes: &mut [u8],
+)
+    requires in_cells { cell + length bytes.old ≤ length cells.old }
+    requires in_memory { place + length bytes.old ≤ length memory.old }
+    ensures { store_of cells.new memory.new
+        ≡ moved direction cell place (length bytes.old) (store_of cells.old memory.old) }
+{
     match direction {
         Direction::IntoCells => {
             memory.get_bytes(place, bytes);

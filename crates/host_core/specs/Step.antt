@@ -1,5 +1,5 @@
 -- A step of the host: what it is to the rest of the machine, and the host after it.
-use Rattle.std.specs.Prelude.{ℕ, if◌then◌else◌, List, Option, Some, None}
+use Rattle.std.specs.Prelude.{ℕ, if◌then◌else◌, Bool, true, false, List, Option, Some, None}
 use Rattle.venice_isa.specs.declared.instr.Instr.{Instr}
 use Rattle.venice_isa.specs.declared.issue.Issue.{Issue}
 use Rattle.venice_isa.specs.declared.issue.Issue.TheVariants.{Vector, Read, Write, TWait}
@@ -40,3 +40,8 @@ wanted_of _ = None
 abbrev pub wanted_by : Deed → Option ℕ
 wanted_by (Passes issue) = wanted_of issue
 wanted_by _ = None
+
+-- it concerns the host alone, which then waits for nothing
+abbrev pub moves : Deed → Bool
+moves Moves = true
+moves _ = false

@@ -1,14 +1,15 @@
 //! The host.
-ghost use Rattle.std.specs.Prelude.{◌≡◌, ◌<◌, length};
+ghost use Rattle.std.specs.Prelude.{◌≡◌, ◌<◌, length, not};
 ghost use Rattle.venice_isa.specs.Instr.{IsRegister};
-ghost use Rattle.venice_isa.specs.Host.{start, deed};
+ghost use Rattle.venice_isa.specs.Host.{Host as HostLem, start, deed, deed_of, next};
 ghost use Rattle.venice_isa.specs.HostState.{host_of};
-ghost use Rattle.host_core.specs.Step.{step_of, host_after, wanted_by};
+ghost use Rattle.host_core.specs.Pass.{may_go_on};
+ghost use Rattle.host_core.specs.Step.{step_of, host_after, moves, wanted_by};
 
 use crate::step::Step;
 use crate::waiting::Waiting;
 use std::marker::Model;
-use venice_isa::{Code, Deed, HostState, Issue};
+use venice_isa::{Code, HostState, Instr};
 
 /// The host: 32 registers, 14 parameters, the tag, and its place in the code (docs/MACHINE.md, "The host"). Contracts
 /// see it as its state, which stands for a host of the definitions (`host_of`).
@@ -77,20 +78,78 @@ impl Host {
         if !waiting.lets_go_on(&deed) {
             return Step::Waits;
         }
-        self.state.advance(code);
+        self.move_on(code);
         Step::made_of(deed)
+    }
+
+    /// Whether the next instruction can't be done now. Condition: the place is in the code.
+    #[inline(always)]
+    pub fn waits(&self, code: &Code, waiting: Waiting) -> bool
+        requires { self.now.place < length code.now.instrs }
+        ensures { result ≡ not (may_go_on waiting (deed code.now.instrs (host_of self.now))) }
+    {
+        match code.instr(self.state.place) {
+            Instr::Halt => !waiting.is_idle(),
+            Instr::Vec(_) => Waiting::VECTOR_PLACES <= waiting.vector,
+            Instr::Dma { write: false } => Waiting::TRANSFER_PLACES <= waiting.read,
+            Instr::Dma { write: true } => Waiting::TRANSFER_PLACES <= waiting.write,
+            Instr::Rwait { a } => self.state.register(a) < waiting.read,
+            Instr::Wwait { a } => self.state.register(a) < waiting.write,
+            Instr::Vwait => waiting.vector != 0,
+            Instr::Twait { .. } => waiting.tagged != 0,
+            _ => false,
+        }
+    }
+
+    /// Whether the next instruction concerns the host alone, so that it waits for nothing. Condition: the place is in the
+    /// code.
+    #[inline(always)]
+    pub fn moves(&self, code: &Code) -> bool
+        requires { self.now.place < length code.now.instrs }
+        ensures { result ≡ moves (deed code.now.instrs (host_of self.now)) }
+    {
+        moves(code.instr(self.state.place))
+    }
+
+    /// Does the next instruction, as if nothing held it up. At `halt` nothing changes. Condition: the place is in the code.
+    /// It stays there.
+    #[inline(always)]
+    pub fn move_on(&mut self, code: &Code)
+        requires { self.old.place < length code.now.instrs }
+        ensures host { host_of self.new ≡ next code.now.instrs (host_of self.old) }
+        ensures in_code { self.new.place < length code.now.instrs }
+    {
+        self.state.advance(code);
     }
 
     /// The tag that a `twait` at the host's place waits for, and None exactly where another instruction stands there.
     /// Condition: the place is in the code.
+    #[inline(always)]
     pub fn wanted(&self, code: &Code) -> Option<u32>
         requires { self.now.place < length code.now.instrs }
         ensures { result ≡ wanted_by (deed code.now.instrs (host_of self.now)) }
     {
-        match self.state.deed(code) {
-            Deed::Passes(Issue::TWait(tag)) => Some(tag),
+        match code.instr(self.state.place) {
+            Instr::Twait { a } => Some(self.state.register(a)),
             _ => None,
         }
+    }
+}
+
+/// Whether an instruction concerns the host alone.
+#[inline(always)]
+fn moves(instr: Instr) -> bool
+    ensures { (host : HostLem) → result ≡ moves (deed_of instr host) }
+{
+    match instr {
+        Instr::Halt
+        | Instr::Vec(_)
+        | Instr::Dma { .. }
+        | Instr::Rwait { .. }
+        | Instr::Wwait { .. }
+        | Instr::Vwait
+        | Instr::Twait { .. } => false,
+        _ => true,
     }
 }
 
@@ -99,7 +158,7 @@ mod tests {
     use super::*;
     use std::test::Fail;
     use ven_base::Elem;
-    use venice_isa::{DmaWork, Instr, VecKind, VecOp, VecWork, Version};
+    use venice_isa::{DmaWork, Issue, VecKind, VecOp, VecWork, Version};
 
     const IDLE: Waiting = Waiting {
         vector: 0,

@@ -16,10 +16,10 @@ pub struct Waiting {
 
 impl Waiting {
     /// How many vector instructions the lanes' queue holds.
-    const VECTOR_PLACES: u32 = 4;
+    pub(crate) const VECTOR_PLACES: u32 = 4;
 
     /// How many transfers a channel's queue holds.
-    const TRANSFER_PLACES: u32 = 8;
+    pub(crate) const TRANSFER_PLACES: u32 = 8;
 
     /// Whether an instruction that is this to the rest of the machine may be done now (docs/MACHINE.md, "The host").
     pub fn lets_go_on(&self, deed: &Deed) -> bool
@@ -33,7 +33,7 @@ impl Waiting {
     }
 
     /// Whether nothing is unfinished.
-    fn is_idle(&self) -> bool
+    pub(crate) fn is_idle(&self) -> bool
         ensures { result ≡ is_idle self.now }
     {
         self.vector == 0 && self.read == 0 && self.write == 0

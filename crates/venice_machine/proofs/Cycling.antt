@@ -106,7 +106,7 @@ module _ (setup : Setup) (most : ℕ) where
       ∙ ap (λ b. cond b (after_step setup most (is_second all_units mover) mover state) state) can))
       (step_advances (is_second all_units mover) mover state can)
 
-  turn_idle : (mover : Mover) (state : State) → can_step setup mover state ≡ false → after_turn setup most all_units mover state ≡ state
+  pub turn_idle : (mover : Mover) (state : State) → can_step setup mover state ≡ false → after_turn setup most all_units mover state ≡ state
   turn_idle mover state cannot =
       ap (λ b. cond (is_set all_units (bit_of mover) && (is_none state.end && b)) (after_step setup most (is_second all_units mover) mover state) state) cannot
       ∙ none (is_set all_units (bit_of mover)) (is_none state.end)

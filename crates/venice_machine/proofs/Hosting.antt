@@ -1,5 +1,6 @@
 -- The machine shows, after the host's turn, the state after it.
 use Rattle.std.proofs.Common.{◌≡◌, ℕ, ◌+◌, sym, refl, ap, ◌∙◌, subst, Option, Some, None, Bool, true, false, cond, not}
+use Rattle.std.proofs.lemmas.Bool.{ltb-true}
 use Rattle.venice_isa.specs.declared.issue.Issue.{Issue}
 use Rattle.venice_isa.specs.declared.issue.Issue.TheVariants.{Vector, Read, Write, RWait, WWait, VWait, TWait}
 use Rattle.venice_isa.specs.declared.host.Deed.{Deed}
@@ -17,8 +18,8 @@ use Rattle.venice_machine.specs.declared.stop.Stop.{Stop}
 use Rattle.venice_machine.specs.declared.stop.End.TheVariants.{Halted, Stopped}
 use Rattle.venice_machine.specs.State.{State}
 use Rattle.venice_machine.specs.Step.{TheHost, may_go_on as may_step, stop_before, with_step, with_host_on, with_work, at_halt, after_deed, after_attempt}
-use Rattle.venice_machine.specs.Machine.{Contents, ShowsJobs, Shows}
-use Rattle.venice_machine.specs.Kept.{AllNumbered, queues_with, waiting_in, counted, after_chance}
+use Rattle.venice_machine.specs.Machine.{Queues, Contents, ShowsJobs, Shows}
+use Rattle.venice_machine.specs.Kept.{AllNumbered, HasPlaceFor, queues_with, waiting_in, counted, after_chance}
 use Rattle.venice_machine.proofs.Shown.{host_may, issue_shown}
 use Rattle.venice_machine.proofs.Turning.{step_shown}
 use Rattle.venice_machine.proofs.Runs.{either}
@@ -53,6 +54,14 @@ told waiting what = go (may_go_on waiting what) refl
     go true may = made waiting what may
     go false may = waits may refl
 
+-- a host that may not go on waits
+pub waits_by : (waiting : Waiting) (what : Deed) → true ≡ not (may_go_on waiting what) → step_of waiting what ≡ Waits
+waits_by waiting what e = go (may_go_on waiting what) (sym e)
+  where
+    go : (may : Bool) → not may ≡ true → cond may (step_made what) Waits ≡ Waits
+    go true e = cc
+    go false e = refl
+
 -- answers are different
 other_step : Waits ≡ StepHalted → ⊥
 other_step e = cc
@@ -81,6 +90,28 @@ issue_in other StepHalted = other
 not_both : (b : Bool) → not b ≡ false → b ≡ false → ⊥
 not_both true e f = cc
 not_both false e f = cc
+
+-- a work that is issued has a place
+pub has_place : (wanted : Option ℕ) (queues : Queues) (what : Deed) (issue : Issue) → step_of (waiting_in wanted queues) what ≡ Issued issue → HasPlaceFor issue queues
+has_place wanted queues what issue is = go (told (waiting_in wanted queues) what)
+  where
+    places : (issue : Issue) → may_go_on (waiting_in wanted queues) (Passes issue) ≡ true → HasPlaceFor issue queues
+    places (Vector work) may = ltb-true _ _ may
+    places (Read work) may = ltb-true _ _ may
+    places (Write work) may = ltb-true _ _ may
+    places (RWait most) may = tt
+    places (WWait most) may = tt
+    places VWait may = tt
+    places (TWait tag) may = tt
+
+    go : IsStep (waiting_in wanted queues) what (step_of (waiting_in wanted queues) what) → HasPlaceFor issue queues
+    go (waits may e) = absurd (issued_waits issue (sym (sym e ∙ is)))
+    go (halts may d e) = absurd (issued_halted issue (sym is ∙ e))
+    go (moves may d e) = absurd (issued_moved issue (sym is ∙ e))
+    go (passes_wait may other d isnt e) = absurd (issued_moved issue (sym is ∙ e))
+    go (issues may other d work e) =
+        let same : other ≡ issue = ap (issue_in issue) (sym e ∙ is) in
+        subst (λ issue. HasPlaceFor issue queues) same (places other (sym (ap (may_go_on (waiting_in wanted queues)) d) ∙ may))
 
 -- ---- the machine's host
 

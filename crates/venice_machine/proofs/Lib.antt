@@ -9,6 +9,7 @@ pub mod Turning
 pub mod Hosting
 pub mod Runs
 pub mod Cycling
+pub mod Alone
 pub mod Canonical
 pub mod Stretches
 pub mod Inputs

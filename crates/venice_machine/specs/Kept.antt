@@ -1,5 +1,5 @@
 -- Inner: what is done with the queues of the units.
-use Rattle.std.specs.Prelude.{◌≡◌, ℕ, ◌+◌, ◌<◌, ◌==◌, nat_lt, nat_le, Bool, false, not, ◌&&◌, ◌||◌, if◌then◌else◌, List, [], ◌∷◌, ◌++◌, length, slice_get, All, Option, Some, None, ⊤}
+use Rattle.std.specs.Prelude.{◌≡◌, ℕ, ◌+◌, ◌<◌, ◌==◌, nat_lt, nat_le, Bool, false, not, ◌&&◌, ◌||◌, if◌then◌else◌, List, [], ◌∷◌, ◌++◌, length, slice_get, All, IsTrue, Option, Some, None, ⊤}
 use Rattle.std.specs.List.{list_any, remove}
 use Rattle.ven_base.specs.Store.{Store, Size}
 use Rattle.ven_base.specs.Job.{Course, course_as, jobs_beaten}
@@ -12,7 +12,11 @@ use Rattle.venice_isa.specs.Beat.{Progress, course_of, not_begun}
 use Rattle.venice_isa.specs.Tests.{are_in_conflict}
 use Rattle.venice_isa.specs.Units.{Unit, Lanes, ReadChannel, WriteChannel, places, overtakes, keep_their_order}
 use Rattle.spad_store.specs.Tagged.{tagged_among}
+use Rattle.venice_isa.specs.Host.{deed}
+use Rattle.venice_isa.specs.HostState.{host_of}
 use Rattle.host_core.specs.declared.waiting.Waiting.{Waiting}
+use Rattle.host_core.specs.Pass.{is_idle}
+use Rattle.host_core.specs.Step.{moves}
 use Rattle.venice_machine.specs.declared.beat.Beat.{Beat}
 use Rattle.venice_machine.specs.declared.beat.Beat.TheVariants.{Nothing, First, Second}
 use Rattle.venice_machine.specs.declared.stop.Stop.{Stop}
@@ -138,11 +142,13 @@ is_hazard_among version issue queues =
 -- the same by the kinds of issues: works of other units, and of the channel that overtakes
 abbrev pub transfers_against_read : Version → Issue → Queues → Bool
 transfers_against_read version issue queues =
-    (overtakes version ReadChannel && conflicts_with Read issue queues.reads) || conflicts_with Write issue queues.writes
+    (overtakes version ReadChannel && conflicts_with Read issue queues.reads)
+    || conflicts_with Write issue queues.writes
 
 abbrev pub transfers_against_write : Version → Issue → Queues → Bool
 transfers_against_write version issue queues =
-    conflicts_with Read issue queues.reads || (overtakes version ReadChannel && conflicts_with Write issue queues.writes)
+    conflicts_with Read issue queues.reads
+    || (overtakes version ReadChannel && conflicts_with Write issue queues.writes)
 
 abbrev pub hazard_of : Version → Issue → Queues → Bool
 hazard_of version (Vector work) queues =
@@ -184,6 +190,12 @@ counted most machine = record machine {
 -- a step may still be made, while the run goes on
 abbrev pub HasRoom : (most : ℕ) → Contents → Type 0
 HasRoom most machine = machine.end ≡ None → machine.steps < most
+
+-- nothing is unfinished, the host's instruction concerns the host alone, and a step may still be made
+pub record IsHostAlone (most : ℕ) (machine : Contents) : Type 0 where
+  pub more : machine.steps < most
+  pub idle : IsTrue (is_idle (waiting_in None machine.queues))
+  pub moves : IsTrue (moves (deed machine.setup.code.instrs (host_of machine.host)))
 
 -- the mover steps where it can
 abbrev pub after_chance : Setup → (most : ℕ) → (second : Bool) → Mover → State → State

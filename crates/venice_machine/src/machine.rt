@@ -18,7 +18,7 @@ ghost use Rattle.venice_machine.specs.Units.{turn_bits, bits_of_turns, units_of,
 ghost use Rattle.venice_machine.specs.Machine.{Shows};
 ghost use Rattle.venice_machine.specs.Grants.{grant_limit};
 ghost use Rattle.venice_machine.specs.Answers.{counts_of, RunEnds, IsNoMachine};
-ghost use Rattle.venice_machine.specs.Kept.{AllNumbered, unit_course, works_after_beat, place_chosen, beat_of, waiting_in, hazard_of, stop_of, counted, HasRoom, after_chance, unit_bits};
+ghost use Rattle.venice_machine.specs.Kept.{AllNumbered, unit_course, works_after_beat, place_chosen, beat_of, waiting_in, hazard_of, stop_of, counted, HasRoom, IsHostAlone, after_chance, unit_bits};
 
 use crate::arrays;
 use crate::beat::Beat;
@@ -79,8 +79,8 @@ impl Model for Machine {
 
 impl Machine {
     /// The machine before its first cycle, with so many lanes and a scratchpad of so many bytes: memory holds the
-    /// inputs at their places, and 0 elsewhere. `SpadTooSmall` exactly where the image wants more bytes; else `Fit` as `fit`
-    /// answers. Conditions: 1 to 4 lanes, and 1 to 1,048,576 bytes. Nothing later takes memory, but `outputs`.
+    /// inputs at their places, and 0 elsewhere. `SpadTooSmall` exactly where the image wants more bytes; else `Fit` as
+    /// `fit` answers. Conditions: 1 to 4 lanes, and 1 to 1,048,576 bytes. Nothing later takes memory, but `outputs`.
     pub fn new(
         alloc: Global,
         image: Image,
@@ -154,6 +154,7 @@ impl Machine {
     /// ended stays as it is, and the answer is the same again, with no units. `Budget` exactly where the steps reach
     /// `most` and `halt` isn't among them. Conditions: `most` is at most 1,099,511,627,776, and fewer than
     /// 4,611,686,018,427,387,904 cycles were counted before. Takes no memory.
+    #[inline(always)]
     pub fn cycle(&mut self, grant: u8, most: u64) -> Cycle
         requires steps { most ≤ step_limit }
         requires cycles { self.old.cycles < 2 ^ 62 }
@@ -180,8 +181,8 @@ impl Machine {
     }
 
     /// Cycles until `halt` or a stop: those of the grant list, and then such in which all units may step, each channel
-    /// with its first work. The answer is `Ok` at `halt`, and else the stop. At most as many cycles as the list has grants
-    /// and the budget steps. Conditions: `budget` is at most 1,099,511,627,776 steps, and fewer than
+    /// with its first work. The answer is `Ok` at `halt`, and else the stop. At most as many cycles as the list has
+    /// grants and the budget steps. Conditions: `budget` is at most 1,099,511,627,776 steps, and fewer than
     /// 2,305,843,009,213,693,952 cycles were counted before. Takes no memory.
     pub fn run(&mut self, grants: &Grants, budget: u64) -> Result<Counts, Stop>
         requires steps { budget ≤ step_limit }
@@ -232,6 +233,7 @@ impl Machine {
     }
 
     /// A cycle in which all may step: it makes a step, or ends the run.
+    #[inline(always)]
     fn full_cycle(&mut self, budget: u64)
         requires steps { budget ≤ step_limit }
         requires cycles { self.old.cycles < 2 ^ 62 }
@@ -244,7 +246,37 @@ impl Machine {
         ensures state { (state : State) → Shows self.old state →
             Shows self.new (after_cycle self.old.setup budget all_units state) }
     {
+        if self.is_host_alone(budget) {
+            self.host_cycle(budget);
+            return;
+        }
         self.cycle(ALL_UNITS, budget);
+    }
+
+    /// Whether in such a cycle the host steps alone, since nothing is unfinished and its instruction concerns no unit.
+    #[inline(always)]
+    fn is_host_alone(&self, most: u64) -> bool
+        ensures { IsTrue result → IsHostAlone most self.now }
+    {
+        self.steps < most && self.works.is_idle() && self.host.moves(&self.code)
+    }
+
+    /// Does that cycle.
+    #[inline(always)]
+    fn host_cycle(&mut self, most: u64)
+        requires alone { IsHostAlone most self.old }
+        requires limit { most ≤ step_limit }
+        requires going { self.old.end ≡ None }
+        requires cycles { self.old.cycles < 2 ^ 62 }
+        ensures setup { self.new.setup ≡ self.old.setup }
+        ensures cycles { self.new.cycles ≡ self.old.cycles + 1 }
+        ensures room { HasRoom most self.new }
+        ensures state { (state : State) → Shows self.old state →
+            Shows self.new (after_cycle self.old.setup most all_units state) }
+    {
+        self.cycles += 1;
+        self.host.move_on(&self.code);
+        self.count(most);
     }
 
     /// How the run has ended.
@@ -259,6 +291,7 @@ impl Machine {
     }
 
     /// What a cycle answers in which these units stepped.
+    #[inline(always)]
     fn answer(&self, units: u8) -> Cycle
         ensures { result ≡ cycle_answer self.now.end units }
     {
@@ -272,6 +305,7 @@ impl Machine {
     // ---- turns
 
     /// The turns of a cycle in their order; the bits of those that step.
+    #[inline(always)]
     fn turns(&mut self, grant: u8, most: u64) -> u8
         requires room { HasRoom most self.old }
         requires limit { most ≤ step_limit }
@@ -291,6 +325,7 @@ impl Machine {
     }
 
     /// Whether one may step whose bit this is: the grant lets it, and the run goes on.
+    #[inline(always)]
     fn may_turn(&self, grant: u8, bit: u8) -> bool
         requires { bit < 8 }
         ensures { result ≡ (is_set grant bit && is_none self.now.end) }
@@ -298,6 +333,7 @@ impl Machine {
         is_set(grant, bit) && self.end.is_none()
     }
 
+    #[inline(always)]
     fn host_granted(&mut self, grant: u8, most: u64) -> u8
         requires room { HasRoom most self.old }
         requires limit { most ≤ step_limit }
@@ -316,6 +352,7 @@ impl Machine {
         if self.host_turn(most) { HOST } else { 0 }
     }
 
+    #[inline(always)]
     fn lanes_granted(&mut self, grant: u8, most: u64) -> u8
         requires room { HasRoom most self.old }
         requires limit { most ≤ step_limit }
@@ -334,6 +371,7 @@ impl Machine {
         if self.lane_turn(most) { LANES } else { 0 }
     }
 
+    #[inline(always)]
     fn reads_granted(&mut self, grant: u8, most: u64) -> u8
         requires room { HasRoom most self.old }
         requires limit { most ≤ step_limit }
@@ -352,6 +390,7 @@ impl Machine {
         self.read_turn(is_set(grant, 4), most)
     }
 
+    #[inline(always)]
     fn writes_granted(&mut self, grant: u8, most: u64) -> u8
         requires room { HasRoom most self.old }
         requires limit { most ≤ step_limit }
@@ -371,6 +410,7 @@ impl Machine {
     }
 
     /// Counts a step, the last that may be made where these are `most`.
+    #[inline(always)]
     fn count(&mut self, most: u64)
         requires going { self.old.end ≡ None }
         requires steps { self.old.steps < most }
@@ -384,6 +424,7 @@ impl Machine {
         }
     }
 
+    #[inline(always)]
     fn host_turn(&mut self, most: u64) -> bool
         requires going { self.old.end ≡ None }
         requires steps { self.old.steps < most }
@@ -396,6 +437,9 @@ impl Machine {
         ensures answer { result ≡ not (self.new.steps == self.old.steps) }
     {
         let waiting = self.waiting();
+        if self.host.waits(&self.code, waiting) {
+            return false;
+        }
         match self.host.peek(&self.code, waiting) {
             Step::Waits => false,
             Step::Halted => {
@@ -425,8 +469,10 @@ impl Machine {
     }
 
     /// What the host waits for: of tags, that which it wants.
+    #[inline(always)]
     fn waiting(&self) -> Waiting
-        ensures { result ≡ waiting_in (wanted_by (deed self.now.setup.code.instrs (host_of self.now.host))) self.now.queues }
+        ensures { result
+            ≡ waiting_in (wanted_by (deed self.now.setup.code.instrs (host_of self.now.host))) self.now.queues }
     {
         let wanted = match self.code.version {
             Version::One => None,
@@ -471,6 +517,7 @@ impl Machine {
     }
 
     /// Whether a channel goes on with its second work, where that is chosen.
+    #[inline(always)]
     fn overtakes(&self, second: bool) -> bool
         ensures { result ≡ (overtakes self.now.setup.code.version ReadChannel && second) }
     {
@@ -484,6 +531,7 @@ impl Machine {
         issue.is_in_range(self.cells.len(), self.memory.len())
     }
 
+    #[inline(always)]
     fn lane_turn(&mut self, most: u64) -> bool
         requires going { self.old.end ≡ None }
         requires steps { self.old.steps < most }
@@ -502,6 +550,7 @@ impl Machine {
         beaten
     }
 
+    #[inline(always)]
     fn read_beat(&mut self, second: bool) -> Beat
         ensures numbered { AllNumbered self.old.queues }
         ensures beaten { result ≡ beat_of second (length self.old.queues.reads.jobs) }
@@ -514,7 +563,8 @@ impl Machine {
           cells = self.new.cells;
           memory = self.new.memory;
         } }
-        ensures store { store_of self.new.cells self.new.memory ≡ store_beaten (unit_course Read self.old.setup.lane_count)
+        ensures store { store_of self.new.cells self.new.memory
+            ≡ store_beaten (unit_course Read self.old.setup.lane_count)
             (place_chosen second (length self.old.queues.reads.jobs)) self.old.queues.reads.jobs
             (store_of self.old.cells self.old.memory) }
     {
@@ -522,6 +572,7 @@ impl Machine {
             .beat_reads(second, &mut self.cells, &mut self.memory)
     }
 
+    #[inline(always)]
     fn read_turn(&mut self, second: bool, most: u64) -> u8
         requires going { self.old.end ≡ None }
         requires steps { self.old.steps < most }
@@ -549,6 +600,7 @@ impl Machine {
         }
     }
 
+    #[inline(always)]
     fn write_beat(&mut self, second: bool) -> Beat
         ensures numbered { AllNumbered self.old.queues }
         ensures beaten { result ≡ beat_of second (length self.old.queues.writes.jobs) }
@@ -561,7 +613,8 @@ impl Machine {
           cells = self.new.cells;
           memory = self.new.memory;
         } }
-        ensures store { store_of self.new.cells self.new.memory ≡ store_beaten (unit_course Write self.old.setup.lane_count)
+        ensures store { store_of self.new.cells self.new.memory
+            ≡ store_beaten (unit_course Write self.old.setup.lane_count)
             (place_chosen second (length self.old.queues.writes.jobs)) self.old.queues.writes.jobs
             (store_of self.old.cells self.old.memory) }
     {
@@ -569,6 +622,7 @@ impl Machine {
             .beat_writes(second, &mut self.cells, &mut self.memory)
     }
 
+    #[inline(always)]
     fn write_turn(&mut self, second: bool, most: u64) -> u8
         requires going { self.old.end ≡ None }
         requires steps { self.old.steps < most }
@@ -651,6 +705,7 @@ impl Machine {
 }
 
 /// Whether a bit of the grant is set, counted from 0.
+#[inline(always)]
 fn is_set(grant: u8, bit: u8) -> bool
     requires { bit < 8 }
     ensures { result ≡ is_set grant bit }

@@ -1,8 +1,9 @@
 //! The works that are unfinished, and the units that do them.
-ghost use Rattle.std.specs.Prelude.{◌≡◌, ◌↔◌, ◌<◌, ◌≤◌, ◌&&◌, nat_lt, All, IfOk, IsTrue, length};
+ghost use Rattle.std.specs.Prelude.{◌≡◌, ◌↔◌, ◌<◌, ◌≤◌, ◌&&◌, nat_lt, All, None, IfOk, IsTrue, length};
 ghost use Rattle.ven_base.specs.Store.{store_of, store_size, IsInRange};
 ghost use Rattle.ven_base.specs.Job.{jobs_beaten, store_beaten};
 ghost use Rattle.spad_store.specs.Queue.{IsQueue};
+ghost use Rattle.host_core.specs.Pass.{is_idle};
 ghost use Rattle.venice_isa.specs.declared.issue.Issue.TheVariants.{Vector, Read, Write};
 ghost use Rattle.venice_isa.specs.Tests.{has_counts, are_in_conflict};
 ghost use Rattle.venice_isa.specs.Units.{ReadChannel, is_work, overtakes};
@@ -48,6 +49,7 @@ fn are_in_conflict(first: &Issue, second: &Issue) -> bool
 }
 
 /// Whether the channels overtake.
+#[inline(always)]
 pub(crate) fn overtakes(version: Version) -> bool
     ensures { result ≡ overtakes version ReadChannel }
 {
@@ -55,6 +57,7 @@ pub(crate) fn overtakes(version: Version) -> bool
 }
 
 /// Does the next beat of the first work, and settles the numbers; false where there is none.
+#[inline(always)]
 fn beat_first<U: Unit>(
     unit: &mut U,
     numbers: &mut Numbers,
@@ -82,6 +85,7 @@ fn beat_first<U: Unit>(
 }
 
 /// Whether a unit goes on with its second work: it is chosen and there.
+#[inline(always)]
 fn takes_second<U: Unit>(unit: &U, second: bool) -> bool
     ensures second { result ≡ (second && nat_lt 1 (length (U.jobs unit.now))) }
     ensures in_order { IsQueue (U.course (U.setting unit.now)) U.has_counts U.places (U.jobs unit.now) }
@@ -92,6 +96,7 @@ fn takes_second<U: Unit>(unit: &U, second: bool) -> bool
 }
 
 /// Does the next beat of the second work where it is chosen and there, and else of the first.
+#[inline(always)]
 fn beat_one<U: Overtaking>(
     unit: &mut U,
     numbers: &mut Numbers,
@@ -142,6 +147,7 @@ impl Works {
     }
 
     /// How many works are unfinished, and of the transfers those with the tag that is waited for, if one is.
+    #[inline(always)]
     pub fn waiting(&self, wanted: Option<u32>) -> Waiting
         ensures { result ≡ waiting_in wanted self.now.queues }
     {
@@ -157,6 +163,16 @@ impl Works {
             write,
             tagged,
         }
+    }
+
+    /// Whether nothing is unfinished.
+    #[inline(always)]
+    pub fn is_idle(&self) -> bool
+        ensures { result ≡ is_idle (waiting_in None self.now.queues) }
+    {
+        self.lanes.unfinished() == 0
+            && self.reads.unfinished() == 0
+            && self.writes.unfinished() == 0
     }
 
     /// The issue number of a unit's first work: of the lanes 1, of the read channel 2, of the write channel 3.
@@ -269,6 +285,7 @@ impl Works {
     // ---- beats
 
     /// The next beat of the lanes' first work; false where there is none.
+    #[inline(always)]
     pub fn beat_lanes(&mut self, cells: &mut Spad, memory: &mut MainMem) -> bool
         requires inside { AllLieIn (store_size (store_of cells.old memory.old)) self.old.queues }
         ensures beaten { IsTrue result ↔ (0 < length self.old.queues.lanes.jobs) }
@@ -286,13 +303,15 @@ impl Works {
     }
 
     /// The next beat of the read channel's second work where it is chosen and there, and else of the first.
+    #[inline(always)]
     pub fn beat_reads(&mut self, second: bool, cells: &mut Spad, memory: &mut MainMem) -> Beat
         requires inside { AllLieIn (store_size (store_of cells.old memory.old)) self.old.queues }
         ensures beaten { result ≡ beat_of second (length self.old.queues.reads.jobs) }
         ensures works { self.new ≡ record self.old {
           queues = record self.old.queues {
-            reads = works_after_beat (unit_course Read self.old.lane_count) (place_chosen second (length self.old.queues.reads.jobs))
-                self.old.queues.reads (store_of cells.old memory.old);
+            reads = works_after_beat (unit_course Read self.old.lane_count)
+                (place_chosen second (length self.old.queues.reads.jobs)) self.old.queues.reads
+                (store_of cells.old memory.old);
           };
         } }
         ensures store { store_of cells.new memory.new ≡ store_beaten (unit_course Read self.old.lane_count)
@@ -310,13 +329,15 @@ impl Works {
     }
 
     /// The next beat of the write channel's second work where it is chosen and there, and else of the first.
+    #[inline(always)]
     pub fn beat_writes(&mut self, second: bool, cells: &mut Spad, memory: &mut MainMem) -> Beat
         requires inside { AllLieIn (store_size (store_of cells.old memory.old)) self.old.queues }
         ensures beaten { result ≡ beat_of second (length self.old.queues.writes.jobs) }
         ensures works { self.new ≡ record self.old {
           queues = record self.old.queues {
-            writes = works_after_beat (unit_course Write self.old.lane_count) (place_chosen second (length self.old.queues.writes.jobs))
-                self.old.queues.writes (store_of cells.old memory.old);
+            writes = works_after_beat (unit_course Write self.old.lane_count)
+                (place_chosen second (length self.old.queues.writes.jobs)) self.old.queues.writes
+                (store_of cells.old memory.old);
           };
         } }
         ensures store { store_of cells.new memory.new ≡ store_beaten (unit_course Write self.old.lane_count)

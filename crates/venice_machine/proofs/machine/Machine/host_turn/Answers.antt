@@ -12,8 +12,8 @@ use Rattle.venice_machine.specs.Step.{TheHost}
 use Rattle.venice_machine.specs.Machine.{Contents, Shows}
 use Rattle.venice_machine.specs.Working.{UnitsInside}
 use Rattle.venice_machine.specs.Inside.{contents_of, IsMachine}
-use Rattle.venice_machine.specs.Kept.{queues_with, stop_of, hazard_of, waiting_in, after_chance}
-use Rattle.venice_machine.proofs.Hosting.{waits_shown, halted_shown, moved_shown, stopped_shown, issued_shown, issues_it}
+use Rattle.venice_machine.specs.Kept.{HasPlaceFor, queues_with, stop_of, hazard_of, waiting_in, after_chance}
+use Rattle.venice_machine.proofs.Hosting.{has_place, waits_by, waits_shown, halted_shown, moved_shown, stopped_shown, issued_shown, issues_it}
 use Rattle.venice_isa.specs.Footprint.{HasFootprint}
 use Rattle.venice_isa.proofs.TestsRight.{decided}
 use Rattle.venice_machine.proofs.Shown.{issue_numbered, issue_lies}
@@ -23,6 +23,17 @@ use Rattle.venice_machine.proofs.machine.Machine.host_turn.Goals as goal
 -- what stops it before an issue
 abbrev stop_among : Issue → Contents → Option Stop
 stop_among issue m = stop_of m.host.place m.cycles (has_counts issue) (is_in_range (store_size (store_of m.cells m.memory)) issue) (hazard_of m.setup.code.version issue m.queues)
+
+pub returns-then-waits-clause-state : goal.returns-then-waits-clause-state
+returns-then-waits-clause-state c =
+    let inside = c.self.inside in
+    let machine = contents_of inside in
+    let numbered = c.self.invariant.numbered in
+    let what = deed inside.code.instrs (host_of inside.host) in
+    let wait = c.waiting-waiting.ensures ∙ ap (λ (m : Contents). waiting_in (wanted_by (deed m.setup.code.instrs (host_of m.host))) m.queues) (sym c.self.view_is) in
+    let told = ap (λ w. step_of w what) (sym wait) ∙ waits_by c.waiting-waiting.result what c.if-waits.ensures in
+    subst (λ (m : Contents). (state : State) → Shows m state → Shows m (after_chance m.setup c.args.most false TheHost state)) c.self.view_is
+    (λ state shows. waits_shown machine numbered c.args.most state shows told)
 
 pub returns-in-Waits-clause-state : goal.returns-in-Waits-clause-state
 returns-in-Waits-clause-state c =
@@ -71,6 +82,14 @@ returns-in-Some-clause-state c =
     let stop = c.stop_before.ensures ∙ ap (stop_among c.in-Issued.issue) (sym c.self.view_is) in
     let stops = stop_shown machine numbered c.in-Issued.issue it.work state shows ∙ sym stop ∙ c.in-Some.is in
     stopped_shown machine numbered c.args.most state shows c.in-Issued.issue (told ∙ c.in-Issued.is) c.in-Some.stop stops)
+
+pub issue-requires-clause-place : goal.issue-requires-clause-place
+issue-requires-clause-place c =
+    let what = deed c.self.inside.code.instrs (host_of c.self.inside.host) in
+    let counted_is = c.self-in-None.view_is ∙ c.count-in-None.ensures.counted in
+    let wait = c.waiting-waiting.ensures ∙ ap (λ (m : Contents). waiting_in (wanted_by (deed m.setup.code.instrs (host_of m.host))) m.queues) (sym c.self.view_is) in
+    let told = ap (λ w. step_of w what) (sym wait) ∙ sym c.peek.ensures ∙ c.in-Issued.is in
+    subst (HasPlaceFor c.in-Issued.issue) (sym (ap (λ (m : Contents). m.queues) counted_is)) (has_place (wanted_by what) c.self.inside.works.queues what c.in-Issued.issue told)
 
 pub invariant_of-self-in-None-2 : goal.invariant_of-self-in-None-2
 invariant_of-self-in-None-2 c =
