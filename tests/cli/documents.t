@@ -10,7 +10,7 @@ README shows two files as they are, and commands with their output.
   $ blocks README.md | awk -v RS='```\n' '/^# One white square/' | grep . | cmp - examples/blur.arrays
   $ blocks README.md | awk '/^\$ \.\/venice/ { shown = 1 } /^```/ { shown = 0 } shown' > shown
   $ grep -c '^\$' shown
-  3
+  7
   $ grep '^\$' shown | while read -r sign program words; do echo "$sign $program $words"; venice $words; done | cmp - shown
 
 Each rule of a program that docs/LANGUAGE.md lists has an example and its line.
@@ -52,3 +52,24 @@ docs/FORMATS.md lists the faults of an array file with an example each.
   twice: error: inputs twice a
   out of type at 10: error: inputs out of type at 10
   count: error: inputs count a need 2 have 1
+
+Its worked assembler text is canonical, and is the example's.
+
+  $ awk '/^## Assembler texts/ { here = 1 } /^## Grants/ { here = 0 } here' docs/FORMATS.md | blocks - | sed '/^```/,$d' > worked.asm
+  $ venice asm worked.asm worked.image
+  $ venice disasm worked.image | cmp - worked.asm
+  $ venice asm examples/race.asm race.image
+  $ cmp worked.image race.image
+
+So have the faults of a grant list an example each.
+
+  $ printf 'spad 1\nmemory 0\nhalt\n' > halt.asm
+  $ venice asm halt.asm halt.image
+  $ awk '/^## Grants/ { here = 1 } /^## Statuses/ { here = 0 } here' docs/FORMATS.md | grep -o '`[^`]*`: bad at [0-9]*' | tr -d '`' > faults
+  $ while IFS=: read -r text want; do
+  >   printf '%s' "$text" > try.grants
+  >   echo "$want: $(venice exec halt.image /dev/null 1 1 1 try.grants)"
+  > done < faults
+   bad at 2: error: grants bad at 2
+   bad at 1: error: grants bad at 1
+   bad at 4: error: grants bad at 4

@@ -12,6 +12,32 @@ The examples: additions, each with the least scratchpad that it runs in.
   brighter_pixels u8[1,16]
   20 28 36 44 52 60 68 76 84 92 100 108 116 124 132 140
 
+Assembler programs.
+
+  $ run() { venice asm $1.asm "$CRAMTMP/$1.image" && venice exec "$CRAMTMP/$1.image" $1.arrays $2 $3 1000; }
+  $ run copy 1 16
+  to u8[1,16]
+  1 1 2 3 5 8 13 21 34 55 89 144 233 121 98 219
+  steps 11
+  cycles 9
+  $ run add 4 12
+  y u8[1,4]
+  5 7 9 4
+  steps 24
+  cycles 20
+  $ run tiles 2 16 | tail -n 2
+  steps 70
+  cycles 54
+  $ run race 4 16
+  steps 12
+  cycles 10
+  $ for grants in host read late; do venice exec "$CRAMTMP/race.image" race.arrays 4 16 100 $grants.grants; done
+  error: machine hazard pc 8 cycle 9
+  steps 12
+  cycles 12
+  steps 12
+  cycles 18
+
 Programs of the whole language.
 
   $ venice eval blur.ven blur.arrays

@@ -41,6 +41,15 @@ The other commands.
   $ venice explain ''
   error: file
   [8]
+  $ venice asm folder add.image
+  error: file
+  [8]
+  $ venice disasm folder
+  error: file
+  [8]
+  $ venice exec folder add.arrays 1 16 1
+  error: file
+  [8]
 
 A device that gives its bytes piece by piece is read as a file is, up to the limit of a text and one byte more.
 
@@ -60,3 +69,24 @@ No file is written.
   add.arrays
   add.ven
   folder
+
+A file that can't be saved: status 14. Only `asm` saves, and only under its last word.
+
+  $ printf 'spad 16\nmemory 0\nhalt\n' > halt.asm
+  $ venice asm halt.asm folder
+  error: save
+  [14]
+  $ venice asm halt.asm ''
+  error: save
+  [14]
+  $ venice asm halt.asm halt.image
+  $ venice disasm halt.image | cmp - halt.asm
+  $ venice exec halt.image /dev/null 1 16 1
+  steps 1
+  cycles 1
+  $ ls
+  add.arrays
+  add.ven
+  folder
+  halt.asm
+  halt.image

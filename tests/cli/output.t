@@ -47,6 +47,21 @@ So it is for the other commands, of whichever length their text is.
   $ cat status
   9
 
+  $ printf 'spad 16\nmemory 0\nhalt\n' > halt.asm
+  $ venice asm halt.asm halt.image > /dev/full
+  $ venice asm add.ven no.image > /dev/full
+  [9]
+  $ venice asm halt.asm no/such/folder > /dev/full
+  [9]
+  $ venice disasm halt.image > /dev/full
+  [9]
+  $ venice disasm no.image >&-
+  [9]
+  $ venice exec halt.image /dev/null 1 16 1 > /dev/full
+  [9]
+  $ venice exec halt.image /dev/null 1 15 1 >&-
+  [9]
+
 Nothing is read from standard input.
 
   $ venice run add.ven add.arrays add.image 4 28 <&-

@@ -71,6 +71,49 @@ SPAD is 1 to 1,048,576, in the same form.
   2 error: usage: ''
   2 error: usage: '99999999999999999999'
 
+BUDGET is 1 to 1,099,511,627,776, in the same form.
+
+  $ for budget in 0 01 1099511627777 +1 -1 1.0 0x1 '' 99999999999999999999; do
+  >   line=$(venice exec no.image no.arrays 1 1 "$budget")
+  >   echo "$? $line: '$budget'"
+  > done
+  2 error: usage: '0'
+  2 error: usage: '01'
+  2 error: usage: '1099511627777'
+  2 error: usage: '+1'
+  2 error: usage: '-1'
+  2 error: usage: '1.0'
+  2 error: usage: '0x1'
+  2 error: usage: ''
+  2 error: usage: '99999999999999999999'
+  $ venice exec no.image no.arrays 1 1 1099511627776
+  error: file
+  [8]
+
+The other commands take just their words, too.
+
+  $ for words in 'eval' 'eval a' 'check a' 'check a 0' 'check a 1048577' 'explain' 'run a b' 'asm' 'asm a' 'asm a b c' 'disasm' 'disasm a b' 'exec a b 1 1' 'exec a b 1 1 1 c d' 'exec a b 5 1 1' 'exec a b 1 0 1 c' 'exec a b 1 1048577 1 c'; do
+  >   line=$(venice $words)
+  >   echo "$? $line: $words"
+  > done
+  2 error: usage: eval
+  2 error: usage: eval a
+  2 error: usage: check a
+  2 error: usage: check a 0
+  2 error: usage: check a 1048577
+  2 error: usage: explain
+  2 error: usage: run a b
+  2 error: usage: asm
+  2 error: usage: asm a
+  2 error: usage: asm a b c
+  2 error: usage: disasm
+  2 error: usage: disasm a b
+  2 error: usage: exec a b 1 1
+  2 error: usage: exec a b 1 1 1 c d
+  2 error: usage: exec a b 5 1 1
+  2 error: usage: exec a b 1 0 1 c
+  2 error: usage: exec a b 1 1048577 1 c
+
 The words come before everything else: no file is looked at.
 
   $ venice run no.ven no.arrays no.image 0 28

@@ -7,7 +7,7 @@ use Rattle.venice_run.specs.declared.ending.Ending.TheVariants.{Refused, Failed}
 use Rattle.venice_run.specs.declared.ending.Fault.TheVariants.{File, Memory}
 use Rattle.venice_run.specs.declared.refusal.Kind.TheVariants as kind
 use Rattle.venice_run.specs.declared.refusal.Refusal.{Refusal}
-use Rattle.venice_run.specs.declared.refusal.Refusal.TheVariants.{Usage, FileMissing, TooLong, Parse, Check, Form, Scratchpad, Arrays, Fit}
+use Rattle.venice_run.specs.declared.refusal.Refusal.TheVariants.{Usage, FileMissing, TooLong, Parse, Check, Form, Scratchpad, Arrays, Fit, Grants, Image, Text, Machine}
 use Rattle.venice_run.specs.Answer.{Answer, Save, status_with, answer_status}
 use Rattle.venice_run.specs.Commands.{answer_to}
 use Rattle.venice_run.specs.Laws.{NothingFails, NoneCounted, IsAnswered, IsRefused, IsComplete}
@@ -28,6 +28,10 @@ refusal_not_15 (Scratchpad shortage) e = cc
 refusal_not_15 Form e = cc
 refusal_not_15 (Parse fault) e = cc
 refusal_not_15 (Check fault) e = cc
+refusal_not_15 (Grants fault) e = cc
+refusal_not_15 (Image fault) e = cc
+refusal_not_15 (Text fault) e = cc
+refusal_not_15 (Machine stop) e = cc
 refusal_not_15 (Arrays fault) e = cc
 refusal_not_15 (Fit fault) e = cc
 

@@ -1,10 +1,29 @@
 -- Stages that come to one thing, and fail to load only where a load may fail.
 use Rattle.std.proofs.Common.{◌≡◌, ◌⊎◌, inl, inr, ℕ, ◌<◌, ◌≤◌, List, [], ◌∷◌, length, Option, Some, None, Result, Ok, Err, refl, sym, ap, subst, ◌∙◌, arith}
 use Rattle.std.specs.Prelude.{decimal}
+use Rattle.std.specs.Option.{option_map, option_to_list}
 use Rattle.std.proofs.lemmas.Fmt.{decimal_injective}
 use Rattle.ven_base.specs.declared.entry.Entry.{Entry}
 use Rattle.ven_base.specs.Pairs.{Pairs}
 use Rattle.ven_io.specs.Files.{Behaviour}
+use Rattle.image_loader.specs.declared.fault.ImageFault.{ImageFault}
+use Rattle.image_loader.specs.declared.fault.ImageFault.TheVariants as image_fault
+use Rattle.image_loader.specs.Image.{Contents}
+use Rattle.image_loader.specs.Loading.{IsLoading}
+use Rattle.venice_asm.specs.declared.fault.AsmFault.{AsmFault}
+use Rattle.venice_asm.specs.declared.fault.AsmFault.TheVariants as asm_fault
+use Rattle.venice_asm.specs.Canonical.{canonical}
+use Rattle.venice_asm.specs.Faults as texts
+use Rattle.venice_asm.specs.Laws as text_laws
+use Rattle.venice_machine.specs.declared.grants.GrantFault.{GrantFault}
+use Rattle.venice_machine.specs.declared.grants.GrantFault.TheVariants as grant_fault
+use Rattle.venice_machine.specs.declared.stop.Counts.{Counts}
+use Rattle.venice_machine.specs.declared.stop.Stop.{Stop}
+use Rattle.venice_machine.specs.declared.stop.End.{End}
+use Rattle.venice_machine.specs.declared.stop.End.TheVariants.{Halted, Stopped}
+use Rattle.venice_machine.specs.Answers.{RunEnds}
+use Rattle.venice_machine.specs.Grants as grant_lists
+use Rattle.venice_machine.specs.State.{State}
 use Rattle.array_file.specs.declared.fault.ArrayFault.{ArrayFault}
 use Rattle.array_file.specs.declared.fault.ArrayFault.TheVariants as array_fault
 use Rattle.array_file.specs.Faults as files_faults
@@ -32,24 +51,31 @@ use Rattle.venice_run.specs.declared.refusal.Refusal.{Refusal}
 use Rattle.venice_run.specs.declared.refusal.Refusal.TheVariants.{Usage, Scratchpad, Fit}
 use Rattle.venice_run.specs.declared.refusal.Shortage.{Shortage}
 use Rattle.venice_run.specs.declared.request.Request.{Request}
-use Rattle.venice_run.specs.declared.request.Request.TheVariants.{Run, Eval, Check, Explain}
+use Rattle.venice_run.specs.declared.request.Request.TheVariants.{Run, Eval, Check, Explain, Exec, Asm, Disasm}
+use Rattle.venice_run.specs.declared.request.Resources.{Resources}
 use Rattle.venice_run.specs.Addition.{Addition, addition_program, addition_need}
-use Rattle.venice_run.specs.Answer.{Answer, prints}
+use Rattle.venice_run.specs.Answer.{Answer, Save, prints, saves_and_prints}
+use Rattle.venice_run.specs.Asm.{Assembles, assembled, asm}
 use Rattle.venice_run.specs.Check.{check}
 use Rattle.venice_run.specs.Commands.{stages_of, answer_to}
-use Rattle.venice_run.specs.Endings.{parse_ending, check_ending, array_ending}
+use Rattle.venice_run.specs.Disasm.{disasm}
+use Rattle.venice_run.specs.Endings.{parse_ending, check_ending, array_ending, grant_ending, image_ending, assembler_ending, machine_ending}
 use Rattle.venice_run.specs.Eval.{eval}
+use Rattle.venice_run.specs.Exec.{prints_run, exec}
 use Rattle.venice_run.specs.Explain.{explain}
-use Rattle.venice_run.specs.Inputs.{Reads, input_table, fitting, inputs_in, inputs_under}
+use Rattle.venice_run.specs.Grants.{ReadsGrants, grants_in, grants_under}
+use Rattle.venice_run.specs.Images.{image_in, image_under}
+use Rattle.venice_run.specs.Inputs.{Reads, input_table, fitting, arrays_in, arrays_under, inputs_under}
 use Rattle.venice_run.specs.Laws.{ShowsOne, IsPlain}
 use Rattle.venice_run.specs.Plan.{splits, has_room}
 use Rattle.venice_run.specs.Programs.{Parses, Checks, program_in, program_under}
 use Rattle.venice_run.specs.Reading.{text_under, whole_text, loads, limit_of}
 use Rattle.venice_run.specs.Run.{addition_in, run}
 use Rattle.venice_run.specs.Stage.{Then, Ends, Goes, step, gives, refuses}
-use Rattle.venice_run.specs.Words.{Spells, words_of}
-use Rattle.venice_run.proofs.NoFile.{parse_no_file, check_no_file, array_no_file}
+use Rattle.venice_run.specs.Words.{AreInRange, Spells, words_of}
+use Rattle.venice_run.proofs.NoFile.{parse_no_file, check_no_file, array_no_file, grant_no_file, image_no_file, assembler_no_file, machine_no_file}
 use Rattle.venice_run.proofs.Answered.{one_program, one_refusal, no_misfit, one_misfit}
+use Rattle.venice_run.proofs.GrantTexts.{one_list, none_at_faults, one_refusal as one_grant_refusal}
 
 -- the files show one thing a name, and what the crates below say has one answer
 pub record Settled (files : Behaviour) : Type 0 where
@@ -62,6 +88,9 @@ pub record Settled (files : Behaviour) : Type 0 where
   pub at_faults : array_laws.DenotesNothingAtFaults
   pub array_answers : array_laws.HasOneAnswer
   pub splits : SplitsAreOne
+  pub texts : text_laws.HasOneImage
+  pub at_text_faults : text_laws.DenotesNothingAtFaults
+  pub text_answers : text_laws.HasOneAnswer
 
 -- some load may fail
 pub record MayFail (files : Behaviour) : Type 0 where
@@ -183,6 +212,10 @@ gives_lawful {A} files is one = record { once = once; fails = λ e. absurd cc }
 prints_lawful : (files : Behaviour) (text : List ℕ) → Lawful files (prints text)
 prints_lawful files text = gives_lawful files (λ (answer : Answer). answer ≡ record { save = None; text = text; stop = None }) (λ sure a b p q. p ∙ sym q)
 
+saves_lawful : (files : Behaviour) (name bytes text : List ℕ) → Lawful files (saves_and_prints name bytes text)
+saves_lawful files name bytes text =
+    gives_lawful files (λ (answer : Answer). answer ≡ record { save = Some (record { name = name; bytes = bytes }); text = text; stop = None }) (λ sure a b p q. p ∙ sym q)
+
 -- ---- the stages that commands share
 
 -- a call of a layer below that has one answer, faults of the outside apart
@@ -271,17 +304,105 @@ fitting_lawful files table arrays = record { once = once; fails = λ e. absurd c
     once sure (Ok a) (Err (Failed f)) p q pa pb = absurd pb
     once sure (Err (Refused r)) (Err (Failed f)) p q pa pb = absurd pb
 
-inputs_in_lawful : (files : Behaviour) (text : List ℕ) (program : List Statement) → Lawful files (inputs_in text program)
-unfolding inputs_in
-inputs_in_lawful files text program =
-    then_lawful (step_lawful files array_ending (Reads text) (reads_one files text) array_no_file) (λ arrays. fitting_lawful files (input_table program) arrays)
+arrays_in_lawful : (files : Behaviour) (text : List ℕ) → Lawful files (arrays_in text)
+unfolding arrays_in
+arrays_in_lawful files text = step_lawful files array_ending (Reads text) (reads_one files text) array_no_file
 
-inputs_lawful : (files : Behaviour) (name : List ℕ) (program : List Statement) → Lawful files (inputs_under files name program)
+arrays_lawful : (files : Behaviour) (name : List ℕ) → Lawful files (arrays_under files name)
+unfolding arrays_under
+arrays_lawful files name = then_lawful (loads_lawful files name _) (λ text. arrays_in_lawful files text)
+
+inputs_lawful : (files : Behaviour) (name : List ℕ) (table : List Entry) → Lawful files (inputs_under files name table)
 unfolding inputs_under
-inputs_lawful files name program = then_lawful (loads_lawful files name _) (λ text. inputs_in_lawful files text program)
+inputs_lawful files name table = then_lawful (arrays_lawful files name) (λ arrays. fitting_lawful files table arrays)
 
 splits_lawful : (files : Behaviour) (program : List Statement) → Lawful files (splits program)
 splits_lawful files program = gives_lawful files (IsSplitOf program) (λ sure a b p q. sure.splits program a b p q)
+
+-- the image of bytes
+image_plain : (A : Type 0) (fault : ImageFault) → fault ≡ image_fault.Memory → IsPlain {A = A} (Err (image_ending fault)) → ⊥
+image_plain A fault is plain = subst (λ (f : ImageFault). IsPlain {A = A} (Err (image_ending f))) is plain
+
+loads_one : (files : Behaviour) (bytes : List ℕ) → Settled files → HasOne image_ending (IsLoading bytes)
+loads_one files bytes sure = record {
+  values = λ a b p q. p.only b q.found q.spelled;
+  apart = λ a f p q plain. image_plain Contents f (q.only a p.found p.spelled) plain;
+  faults = faults;
+}
+  where
+    faults : (f g : ImageFault) → IsLoading bytes (Err f) → IsLoading bytes (Err g) → IsPlain {A = Contents} (Err (image_ending f)) → IsPlain {A = Contents} (Err (image_ending g)) → f ≡ g
+    faults f g p q pf pg =
+        elim p.fault [
+          | inl memory ↦ absurd (image_plain Contents f memory pf)
+          | inr first ↦ elim (q.exact f first) [
+            | inl memory ↦ absurd (image_plain Contents g memory pg)
+            | inr same ↦ sym same
+          ]
+        ]
+
+image_in_lawful : (files : Behaviour) (bytes : List ℕ) → Lawful files (image_in bytes)
+unfolding image_in
+image_in_lawful files bytes = step_lawful files image_ending (IsLoading bytes) (loads_one files bytes) image_no_file
+
+image_lawful : (files : Behaviour) (name : List ℕ) → Lawful files (image_under files name)
+unfolding image_under
+image_lawful files name = then_lawful (loads_lawful files name _) (λ bytes. image_in_lawful files bytes)
+
+-- the grants of a text
+grants_refused : (A : Type 0) (text : List ℕ) (fault : GrantFault) → grant_lists.IsAnswered text fault → IsPlain {A = A} (Err (grant_ending fault)) → grant_lists.IsRefused text fault
+grants_refused A text grant_fault.Memory is plain = absurd plain
+grants_refused A text fault is plain = is
+
+grants_one : (files : Behaviour) (text : List ℕ) → Settled files → HasOne grant_ending (ReadsGrants text)
+grants_one files text sure = record {
+  values = one_list text;
+  apart = λ a f p q plain. none_at_faults text a f p (grants_refused (List ℕ) text f q plain);
+  faults = λ f g p q pf pg. one_grant_refusal text f g (grants_refused (List ℕ) text f p pf) (grants_refused (List ℕ) text g q pg);
+}
+
+grants_in_lawful : (files : Behaviour) (text : List ℕ) → Lawful files (grants_in text)
+unfolding grants_in
+grants_in_lawful files text = step_lawful files grant_ending (ReadsGrants text) (grants_one files text) grant_no_file
+
+grants_lawful : (files : Behaviour) (name : Option (List ℕ)) → Lawful files (grants_under files name)
+unfolding grants_under
+grants_lawful files None = record { once = λ sure a b p q pa pb. p ∙ sym q; fails = λ e. absurd cc }
+grants_lawful files (Some name) = then_lawful (loads_lawful files name _) (λ text. grants_in_lawful files text)
+
+-- the image of a text
+text_refused : (A : Type 0) (text : List ℕ) (fault : AsmFault) → texts.IsAnswered text fault → IsPlain {A = A} (Err (assembler_ending fault)) → texts.IsRefused text fault
+text_refused A text asm_fault.Memory is plain = absurd plain
+text_refused A text fault is plain = is
+
+assembles_one : (files : Behaviour) (text : List ℕ) → Settled files → HasOne assembler_ending (Assembles text)
+assembles_one files text sure = record {
+  values = sure.texts text;
+  apart = λ a f p q plain. sure.at_text_faults text a f p (text_refused Contents text f q plain);
+  faults = λ f g p q pf pg. sure.text_answers text f g (text_refused Contents text f p pf) (text_refused Contents text g q pg);
+}
+
+assembled_lawful : (files : Behaviour) (text : List ℕ) → Lawful files (assembled text)
+unfolding assembled
+assembled_lawful files text = step_lawful files assembler_ending (Assembles text) (assembles_one files text) assembler_no_file
+
+-- the end of a run
+one_stop : (f g : Stop) → ◌≡◌ {A = Option End} (Some (Stopped f)) (Some (Stopped g)) → f ≡ g
+one_stop f g e = cc
+
+not_halted : (f : Stop) → ◌≡◌ {A = Option End} (Some Halted) (Some (Stopped f)) → ⊥
+not_halted f e = cc
+
+runs_one : (files : Behaviour) (state : State) → Settled files → HasOne machine_ending (RunEnds state)
+runs_one files state sure = record {
+  values = λ a b p q. p.1 ∙ sym q.1;
+  apart = λ a f p q plain. not_halted f (sym p.0 ∙ q);
+  faults = λ f g p q pf pg. one_stop f g (sym p ∙ q);
+}
+
+prints_run_lawful : (files : Behaviour) (table : List Entry) (state : State) → Lawful files (prints_run table state)
+unfolding prints_run
+prints_run_lawful files table state =
+    then_lawful (step_lawful files machine_ending (RunEnds state) (runs_one files state) machine_no_file) (λ counts. prints_lawful files _)
 
 -- ---- the commands
 
@@ -289,7 +410,7 @@ eval_lawful : (files : Behaviour) (program inputs : List ℕ) → Lawful files (
 unfolding eval
 eval_lawful files program inputs =
     then_lawful (program_lawful files program) (λ checked.
-    then_lawful (inputs_lawful files inputs checked) (λ arrays. prints_lawful files _))
+    then_lawful (inputs_lawful files inputs (input_table checked)) (λ arrays. prints_lawful files _))
 
 check_lawful : (files : Behaviour) (program : List ℕ) (spad : ℕ) → Lawful files (check files program spad)
 unfolding check
@@ -310,7 +431,25 @@ run_lawful files program inputs spad =
     then_lawful (program_lawful files program) (λ checked.
     then_lawful (addition_in_lawful files checked) (λ addition.
     then_lawful (room_lawful files (addition_need addition) spad) (λ _.
-    then_lawful (inputs_lawful files inputs checked) (λ arrays. prints_lawful files _))))
+    then_lawful (inputs_lawful files inputs (input_table checked)) (λ arrays. prints_lawful files _))))
+
+exec_lawful : (files : Behaviour) (image inputs : List ℕ) (resources : Resources) (grants : Option (List ℕ)) → Lawful files (exec files image inputs resources grants)
+unfolding exec
+exec_lawful files image inputs resources grants =
+    then_lawful (image_lawful files image) (λ loaded.
+    then_lawful (room_lawful files loaded.spad resources.spad) (λ _.
+    then_lawful (inputs_lawful files inputs loaded.arrays) (λ arrays.
+    then_lawful (grants_lawful files grants) (λ list. prints_run_lawful files loaded.arrays _))))
+
+asm_lawful : (files : Behaviour) (text image : List ℕ) → Lawful files (asm files text image)
+unfolding asm
+asm_lawful files text image =
+    then_lawful (loads_lawful files text _) (λ lines.
+    then_lawful (assembled_lawful files lines) (λ denoted. saves_lawful files image _ []))
+
+disasm_lawful : (files : Behaviour) (image : List ℕ) → Lawful files (disasm files image)
+unfolding disasm
+disasm_lawful files image = then_lawful (image_lawful files image) (λ loaded. prints_lawful files (canonical loaded))
 
 -- each request's stages
 stages_lawful : (files : Behaviour) (request : Request) → Lawful files (stages_of files request)
@@ -318,6 +457,24 @@ stages_lawful files (Run program inputs image lanes spad) = run_lawful files pro
 stages_lawful files (Eval program inputs) = eval_lawful files program.now inputs.now
 stages_lawful files (Check program spad) = check_lawful files program.now spad
 stages_lawful files (Explain program) = explain_lawful files program.now
+stages_lawful files (Exec image inputs resources grants) = exec_lawful files image.now inputs.now resources (option_map (λ name. name.now) grants)
+stages_lawful files (Asm text image) = asm_lawful files text.now image.now
+stages_lawful files (Disasm image) = disasm_lawful files image.now
+
+-- a name that may be there
+one_name : (a b : Option (List ℕ)) → option_to_list a ≡ option_to_list b → a ≡ b
+one_name None None e = refl
+one_name (Some x) (Some y) e = let same : x ≡ y = cc in ap Some same
+one_name None (Some y) e = absurd cc
+one_name (Some x) None e = absurd cc
+
+-- numbers whose decimals are the same
+same_resources : (r s : Resources) → AreInRange r → AreInRange s → decimal r.lanes ≡ decimal s.lanes → decimal r.spad ≡ decimal s.spad → decimal r.budget ≡ decimal s.budget → r ≡ s
+same_resources r s in_r in_s lanes spads budgets =
+    let lanes_are : r.lanes ≡ s.lanes = decimal_injective r.lanes s.lanes (omega (arith, in_r.lanes.1)) (omega (arith, in_s.lanes.1)) lanes in
+    let spads_are : r.spad ≡ s.spad = decimal_injective r.spad s.spad (omega (arith, in_r.spad.1)) (omega (arith, in_s.spad.1)) spads in
+    let budgets_are : r.budget ≡ s.budget = decimal_injective r.budget s.budget (omega (arith, in_r.budget.1)) (omega (arith, in_s.budget.1)) budgets in
+    λ i. record { lanes = lanes_are i; spad = spads_are i; budget = budgets_are i }
 
 -- words spell one request, but for where its names lie in memory
 same_stages : (files : Behaviour) (words : List (List ℕ)) (r s : Request) → Spells words r → Spells words s → (b : Result Answer Ending) → stages_of files s b → stages_of files r b
@@ -347,6 +504,29 @@ same_stages files words (Explain p) (Explain q) spells spells_s b h =
     let programs : p.now ≡ q.now = cc in
     rw programs h
 same_stages files words (Explain p) s spells spells_s b h = absurd cc
+same_stages files words (Exec m i r g) (Exec n j s k) spells spells_s b h =
+    let e : words_of (Exec m i r g) ≡ words_of (Exec n j s k) = sym spells.words_are ∙ spells_s.words_are in
+    let images : m.now ≡ n.now = cc in
+    let inputs : i.now ≡ j.now = cc in
+    let lanes : decimal r.lanes ≡ decimal s.lanes = cc in
+    let spads : decimal r.spad ≡ decimal s.spad = cc in
+    let budgets : decimal r.budget ≡ decimal s.budget = cc in
+    let names : option_to_list (option_map (λ name. name.now) g) ≡ option_to_list (option_map (λ name. name.now) k) = cc in
+    let resources : r ≡ s = same_resources r s spells.in_range spells_s.in_range lanes spads budgets in
+    let grants = one_name (option_map (λ name. name.now) g) (option_map (λ name. name.now) k) names in
+    rw (images, inputs, resources, grants) h
+same_stages files words (Exec m i r g) s spells spells_s b h = absurd cc
+same_stages files words (Asm t m) (Asm u n) spells spells_s b h =
+    let e : words_of (Asm t m) ≡ words_of (Asm u n) = sym spells.words_are ∙ spells_s.words_are in
+    let texts_are : t.now ≡ u.now = cc in
+    let images : m.now ≡ n.now = cc in
+    rw (texts_are, images) h
+same_stages files words (Asm t m) s spells spells_s b h = absurd cc
+same_stages files words (Disasm m) (Disasm n) spells spells_s b h =
+    let e : words_of (Disasm m) ≡ words_of (Disasm n) = sym spells.words_are ∙ spells_s.words_are in
+    let images : m.now ≡ n.now = cc in
+    rw images h
+same_stages files words (Disasm m) s spells spells_s b h = absurd cc
 
 -- what the words come to
 pub answer_lawful : (files : Behaviour) (words : List (List ℕ)) → Lawful files (answer_to files words)

@@ -1,6 +1,7 @@
 pub mod Promised
 pub mod NoFile
 pub mod Answered
+pub mod GrantTexts
 pub mod Lawful
 pub mod Complete
 pub mod Parts

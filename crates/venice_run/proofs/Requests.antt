@@ -7,12 +7,13 @@ use Rattle.std.specs.declared.alloc.Global.{Global}
 use Rattle.std.proofs.lemmas.Fmt.{parse-decimal}
 use Rattle.std.proofs.lemmas.List.{get_or-map}
 use Rattle.venice_run.specs.declared.request.Request.{Request}
-use Rattle.venice_run.specs.declared.request.Request.TheVariants.{Run, Eval, Check, Explain}
-use Rattle.venice_run.specs.Requests.{IsRun, IsEval, IsCheck, IsExplain}
-use Rattle.venice_run.specs.Words.{texts_of, words_of, IsUpTo, Spells}
+use Rattle.venice_run.specs.declared.request.Request.TheVariants.{Run, Eval, Check, Explain, Exec, Asm, Disasm}
+use Rattle.venice_run.specs.declared.request.Resources.{Resources}
+use Rattle.venice_run.specs.Requests.{IsRun, IsEval, IsCheck, IsExplain, IsFreeExec, IsGrantedExec, IsAsm, IsDisasm, SpellResources}
+use Rattle.venice_run.specs.Words.{texts_of, words_of, IsUpTo, AreInRange, Spells}
 
-read : {E : Type 0} (text : List ℕ) (most n : ℕ) (r : Result ℕ E) → most < 2 ^ 32 → n ≤ most → text ≡ decimal n → ParsesUnsigned 32 10 text r → r ≡ Ok n
-read text most n r small le is parsed = parse-decimal 32 n text r (omega arith) (omega arith) is parsed
+read : {E : Type 0} (text : List ℕ) (most n : ℕ) (r : Result ℕ E) → most < 2 ^ 64 → n ≤ most → text ≡ decimal n → ParsesUnsigned 64 10 text r → r ≡ Ok n
+read text most n r small le is parsed = parse-decimal 64 n text r (omega arith) (omega arith) is parsed
 
 ok_is : {E : Type 0} (m n : ℕ) → ◌≡◌ {A = Result ℕ E} (Ok m) (Ok n) → m ≡ n
 ok_is m n e = cc
@@ -21,11 +22,11 @@ not_ok : {E : Type 0} (e : E) (n : ℕ) → ◌≡◌ {A = Result ℕ E} (Err e)
 not_ok e n h = cc
 
 -- a plain decimal is read as its number
-pub is_read : {E : Type 0} (text : List ℕ) (most n m : ℕ) (r : Result ℕ E) → most < 2 ^ 32 → n ≤ most → text ≡ decimal n → ParsesUnsigned 32 10 text r → r ≡ Ok m → m ≡ n
+pub is_read : {E : Type 0} (text : List ℕ) (most n m : ℕ) (r : Result ℕ E) → most < 2 ^ 64 → n ≤ most → text ≡ decimal n → ParsesUnsigned 64 10 text r → r ≡ Ok m → m ≡ n
 is_read {E} text most n m r small le is parsed found = ok_is {E = E} m n (sym found ∙ read text most n r small le is parsed)
 
 -- and it is read
-pub not_refused : {E : Type 0} (text : List ℕ) (most n : ℕ) (e : E) (r : Result ℕ E) → most < 2 ^ 32 → n ≤ most → text ≡ decimal n → ParsesUnsigned 32 10 text r → r ≡ Err e → ⊥
+pub not_refused : {E : Type 0} (text : List ℕ) (most n : ℕ) (e : E) (r : Result ℕ E) → most < 2 ^ 64 → n ≤ most → text ≡ decimal n → ParsesUnsigned 64 10 text r → r ≡ Err e → ⊥
 not_refused {E} text most n e r small le is parsed found = not_ok {E = E} e n (sym found ∙ read text most n r small le is parsed)
 
 -- a text that a number prints is told to be so
@@ -57,6 +58,46 @@ no_size words word is long none (Check program spad) check spells =
     none spad spells.in_range (word_at words word 2 is (omega arith) ∙ ap (λ (ws : List (List ℕ)). get_or ws 2 []) spells.words_are)
 no_size words word is long none request check spells = absurd check
 
+-- `exec`: the fourth, fifth and sixth word are its numbers
+no_resources : (words : List (String Global)) (lanes spad budget : String Global)
+    → lanes ≡ get_or words 3 lanes → spad ≡ get_or words 4 spad → budget ≡ get_or words 5 budget → 6 ≤ length words
+    → ((resources : Resources) → ¬ SpellResources (string_bytes lanes) (string_bytes spad) (string_bytes budget) resources)
+    → (request : Request) (image inputs : List ℕ) (resources : Resources) (rest : List (List ℕ))
+    → words_of request ≡ codes "exec" ∷ image ∷ inputs ∷ decimal resources.lanes ∷ decimal resources.spad ∷ decimal resources.budget ∷ rest
+    → AreInRange resources → ¬ Spells (texts_of words) request
+no_resources words lanes spad budget is_lanes is_spad is_budget long none request image inputs resources rest are in_range spells =
+    let words_are = spells.words_are ∙ are in
+    none resources (record {
+      in_range = in_range;
+      lanes_are = word_at words lanes 3 is_lanes (omega arith) ∙ ap (λ (ws : List (List ℕ)). get_or ws 3 []) words_are;
+      spad_is = word_at words spad 4 is_spad (omega arith) ∙ ap (λ (ws : List (List ℕ)). get_or ws 4 []) words_are;
+      budget_is = word_at words budget 5 is_budget (omega arith) ∙ ap (λ (ws : List (List ℕ)). get_or ws 5 []) words_are;
+    })
+
+pub no_free : (words : List (String Global)) (lanes spad budget : String Global)
+    → lanes ≡ get_or words 3 lanes → spad ≡ get_or words 4 spad → budget ≡ get_or words 5 budget → 6 ≤ length words
+    → ((resources : Resources) → ¬ SpellResources (string_bytes lanes) (string_bytes spad) (string_bytes budget) resources)
+    → (request : Request) → IsFreeExec request → ¬ Spells (texts_of words) request
+no_free words lanes spad budget is_lanes is_spad is_budget long none (Exec image inputs resources None) free spells =
+    no_resources words lanes spad budget is_lanes is_spad is_budget long none (Exec image inputs resources None) image.now inputs.now resources [] refl spells.in_range spells
+no_free words lanes spad budget is_lanes is_spad is_budget long none request free spells = absurd free
+
+pub no_granted : (words : List (String Global)) (lanes spad budget : String Global)
+    → lanes ≡ get_or words 3 lanes → spad ≡ get_or words 4 spad → budget ≡ get_or words 5 budget → 7 ≤ length words
+    → ((resources : Resources) → ¬ SpellResources (string_bytes lanes) (string_bytes spad) (string_bytes budget) resources)
+    → (request : Request) → IsGrantedExec request → ¬ Spells (texts_of words) request
+no_granted words lanes spad budget is_lanes is_spad is_budget long none (Exec image inputs resources (Some grants)) granted spells =
+    no_resources words lanes spad budget is_lanes is_spad is_budget (omega arith) none (Exec image inputs resources (Some grants)) image.now inputs.now resources (grants.now ∷ []) refl spells.in_range
+    spells
+no_granted words lanes spad budget is_lanes is_spad is_budget long none request granted spells = absurd granted
+
+-- seven words, one by one
+pub seven : (words : List (String Global)) (a b c d e f g : String Global) → 7 ≤ length words → length words < 8
+    → a ≡ get_or words 0 a → b ≡ get_or words 1 b → c ≡ get_or words 2 c → d ≡ get_or words 3 d → e ≡ get_or words 4 e → f ≡ get_or words 5 f → g ≡ get_or words 6 g
+    → texts_of words ≡ string_bytes a ∷ string_bytes b ∷ string_bytes c ∷ string_bytes d ∷ string_bytes e ∷ string_bytes f ∷ string_bytes g ∷ []
+seven (t ∷ u ∷ v ∷ w ∷ x ∷ y ∷ z ∷ []) a b c d e f g low high p0 p1 p2 p3 p4 p5 p6 = cc
+seven _ a b c d e f g low high p0 p1 p2 p3 p4 p5 p6 = absurd (omega arith)
+
 -- six words, one by one
 pub six : (words : List (String Global)) (a b c d e f : String Global) → 6 ≤ length words → length words < 7
     → a ≡ get_or words 0 a → b ≡ get_or words 1 b → c ≡ get_or words 2 c → d ≡ get_or words 3 d → e ≡ get_or words 4 e → f ≡ get_or words 5 f
@@ -81,15 +122,23 @@ not_so_many words n request other is spells = other (ap length spells.words_are 
 pub other_word : (words : List (List ℕ)) (word : List ℕ) (request : Request) → (get_or words 0 [] ≡ word → ⊥) → get_or (words_of request) 0 [] ≡ word → ¬ Spells words request
 other_word words word request other is spells = other (ap (λ (ws : List (List ℕ)). get_or ws 0 []) spells.words_are ∙ is)
 
+-- the words spell no request of a kind
+abbrev pub SpellNo : (Request → Type 0) → List (List ℕ) → Type 0
+SpellNo is words = (request : Request) → is request → ¬ Spells words request
+
 -- words that spell none of the first commands' requests spell what the last one's say
 pub last : (words : List (List ℕ)) (found : Option Request)
-    → ((request : Request) → IsRun request → ¬ Spells words request) → ((request : Request) → IsEval request → ¬ Spells words request) → ((request : Request) → IsCheck request → ¬ Spells words request)
-    → MatchOption found ((request : Request) → IsExplain request → ¬ Spells words request) (Spells words) → MatchOption found ((request : Request) → ¬ Spells words request) (Spells words)
-last words (Some request) no_run no_eval no_check spells = spells
-last words None no_run no_eval no_check no_explain = none
+    → SpellNo IsRun words → SpellNo IsEval words → SpellNo IsCheck words → SpellNo IsExplain words → SpellNo IsFreeExec words → SpellNo IsGrantedExec words → SpellNo IsAsm words
+    → MatchOption found (SpellNo IsDisasm words) (Spells words) → MatchOption found ((request : Request) → ¬ Spells words request) (Spells words)
+last words (Some request) no_run no_eval no_check no_explain no_free no_granted no_asm spells = spells
+last words None no_run no_eval no_check no_explain no_free no_granted no_asm no_disasm = none
   where
     none : (request : Request) → ¬ Spells words request
     none (Run program inputs image lanes spad) = no_run (Run program inputs image lanes spad) tt
     none (Eval program inputs) = no_eval (Eval program inputs) tt
     none (Check program spad) = no_check (Check program spad) tt
     none (Explain program) = no_explain (Explain program) tt
+    none (Exec image inputs resources None) = no_free (Exec image inputs resources None) tt
+    none (Exec image inputs resources (Some grants)) = no_granted (Exec image inputs resources (Some grants)) tt
+    none (Asm text image) = no_asm (Asm text image) tt
+    none (Disasm image) = no_disasm (Disasm image) tt

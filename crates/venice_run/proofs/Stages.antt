@@ -3,6 +3,8 @@ use Rattle.std.proofs.Common.{◌≡◌, Result, Ok, Err, refl, sym, ap, subst, 
 use Rattle.std.specs.Result.{IsErrAnd}
 use Rattle.std.proofs.lemmas.Result.{err_from_is_err_and}
 use Rattle.venice_run.specs.declared.ending.Ending.{Ending}
+use Rattle.venice_run.specs.declared.ending.Ending.TheVariants.{Failed}
+use Rattle.venice_run.specs.declared.ending.Fault.TheVariants.{File}
 use Rattle.venice_run.specs.Stage.{Then, Ends, as_stage, step}
 
 -- a stage ends the command, at the exit of its `?`
@@ -21,3 +23,13 @@ pub last_ends : {A C E : Type 0} (ending_of : E → Ending) (is : Result A E →
 last_ends {A} {C} ending_of is view fault r exit holds =
     let p = err_from_is_err_and r exit in
     subst (λ (x : Result C Ending). step ending_of is (as_stage view x)) (sym p.1) (fault, holds, p.2)
+
+-- a stage that loads nothing doesn't end in a failed load, at the exit of its `?`
+pub not_failed : {A C : Type 0} (stage : Result A Ending → Type 0) (ending : Ending) (r : Result C Ending) → IsErrAnd r (λ e. e ≡ ending) → stage (Err ending) → (stage (Err (Failed File)) → ⊥)
+    → r ≡ Err (Failed File) → ⊥
+not_failed {A} {C} stage ending r exit is none same =
+    let p = err_from_is_err_and r exit in
+    none (subst (λ (e : Ending). stage (Err e)) (err_is (sym p.1 ∙ same) p.2) is)
+  where
+    err_is : {x : Ending} → ◌≡◌ {A = Result C Ending} (Err x) (Err (Failed File)) → x ≡ ending → ending ≡ Failed File
+    err_is {x} e is = let one : x ≡ Failed File = cc in sym is ∙ one

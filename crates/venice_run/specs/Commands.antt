@@ -1,13 +1,17 @@
 -- What the words of the command line come to.
 use Rattle.std.specs.Prelude.{◌≡◌, ℕ, List, Ok, Err}
+use Rattle.std.specs.Option.{option_map}
 use Rattle.ven_io.specs.Files.{Behaviour}
 use Rattle.venice_run.specs.declared.ending.Ending.TheVariants.{Refused}
 use Rattle.venice_run.specs.declared.refusal.Refusal.TheVariants.{Usage}
 use Rattle.venice_run.specs.declared.request.Request.{Request}
-use Rattle.venice_run.specs.declared.request.Request.TheVariants.{Run, Eval, Check, Explain}
+use Rattle.venice_run.specs.declared.request.Request.TheVariants.{Run, Eval, Check, Explain, Exec, Asm, Disasm}
 use Rattle.venice_run.specs.Answer.{Answer}
+use Rattle.venice_run.specs.Asm.{asm}
 use Rattle.venice_run.specs.Check.{check}
+use Rattle.venice_run.specs.Disasm.{disasm}
 use Rattle.venice_run.specs.Eval.{eval}
+use Rattle.venice_run.specs.Exec.{exec}
 use Rattle.venice_run.specs.Explain.{explain}
 use Rattle.venice_run.specs.Run.{run}
 use Rattle.venice_run.specs.Stage.{Stage, ◌>>=◌}
@@ -19,6 +23,10 @@ stages_of files (Run program inputs image lanes spad) = run files program.now in
 stages_of files (Eval program inputs) = eval files program.now inputs.now
 stages_of files (Check program spad) = check files program.now spad
 stages_of files (Explain program) = explain files program.now
+stages_of files (Exec image inputs resources grants) =
+    exec files image.now inputs.now resources (option_map (λ name. name.now) grants)
+stages_of files (Asm text image) = asm files text.now image.now
+stages_of files (Disasm image) = disasm files image.now
 
 -- the request that the words spell, or that they spell none
 abbrev pub request_in : List (List ℕ) → Stage Request

@@ -4,12 +4,12 @@ use Rattle.ven_io.specs.Files.{Behaviour}
 use Rattle.array_file.specs.Output.{arrays_text}
 use Rattle.shape_check.specs.Meaning.{meaning_of}
 use Rattle.venice_run.specs.Answer.{Answer, prints}
-use Rattle.venice_run.specs.Inputs.{inputs_under}
+use Rattle.venice_run.specs.Inputs.{input_table, inputs_under}
 use Rattle.venice_run.specs.Programs.{program_under}
 use Rattle.venice_run.specs.Stage.{Stage, ◌>>=◌}
 
 unfoldable pub eval : Behaviour → (program inputs : List ℕ) → Stage Answer
 eval files program inputs = do
   checked ← program_under files program
-  arrays ← inputs_under files inputs checked
+  arrays ← inputs_under files inputs (input_table checked)
   prints (arrays_text (meaning_of checked arrays))

@@ -1,4 +1,4 @@
--- The inputs of a program under a name: an array file whose arrays fit the program.
+-- The inputs under a name: an array file whose arrays fit the inputs of a table, as a program or an image has one.
 use Rattle.std.specs.Prelude.{◌≡◌, ℕ, List, [], ◌∷◌, ◌++◌, false, Result, Ok, Err}
 use Rattle.ven_base.specs.declared.entry.Entry.{Entry}
 use Rattle.ven_base.specs.Pairs.{Pairs}
@@ -38,14 +38,18 @@ fitting table arrays (Ok fitted) = (fitted ≡ arrays) × Fits arrays table
 fitting table arrays (Err (Refused refusal)) = (fault : FitFault) × IsUnfit arrays table fault × (refusal ≡ Fit fault)
 fitting table arrays (Err (Failed fault)) = fault ≡ Memory
 
--- the arrays that the text gives to the program's inputs
-unfoldable pub inputs_in : List ℕ → List Statement → Stage Pairs
-inputs_in text program = do
-  arrays ← step array_ending (Reads text)
-  fitting (input_table program) arrays
+-- the arrays of the text
+unfoldable pub arrays_in : List ℕ → Stage Pairs
+arrays_in text = step array_ending (Reads text)
 
--- the program's inputs under the name
-unfoldable pub inputs_under : Behaviour → List ℕ → List Statement → Stage Pairs
-inputs_under files name program = do
+-- the arrays of the file under the name
+unfoldable pub arrays_under : Behaviour → List ℕ → Stage Pairs
+arrays_under files name = do
   text ← loads files name kind.Inputs
-  inputs_in text program
+  arrays_in text
+
+-- the inputs of the table under the name
+unfoldable pub inputs_under : Behaviour → List ℕ → List Entry → Stage Pairs
+inputs_under files name table = do
+  arrays ← arrays_under files name
+  fitting table arrays

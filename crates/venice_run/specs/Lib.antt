@@ -10,10 +10,15 @@ pub mod Endings
 pub mod Programs
 pub mod Inputs
 pub mod Plan
+pub mod Images
+pub mod Grants
 pub mod Run
 pub mod Eval
 pub mod Check
 pub mod Explain
+pub mod Exec
+pub mod Asm
+pub mod Disasm
 pub mod Words
 pub mod Requests
 pub mod Commands

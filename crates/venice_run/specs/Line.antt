@@ -10,13 +10,21 @@ use Rattle.array_file.specs.declared.fault.ArrayFault.{ArrayFault}
 use Rattle.array_file.specs.declared.fault.ArrayFault.TheVariants as array_fault
 use Rattle.array_file.specs.declared.fitting.FitFault.{FitFault}
 use Rattle.array_file.specs.declared.fitting.FitFault.TheVariants as fit_fault
+use Rattle.image_loader.specs.declared.fault.ImageFault.{ImageFault}
+use Rattle.image_loader.specs.declared.fault.ImageFault.TheVariants as image_fault
+use Rattle.venice_asm.specs.declared.fault.AsmFault.{AsmFault}
+use Rattle.venice_asm.specs.declared.fault.AsmFault.TheVariants as asm_fault
+use Rattle.venice_machine.specs.declared.grants.GrantFault.{GrantFault}
+use Rattle.venice_machine.specs.declared.grants.GrantFault.TheVariants as grant_fault
+use Rattle.venice_machine.specs.declared.stop.Stop.{Stop}
+use Rattle.venice_machine.specs.declared.stop.Stop.TheVariants as machine_stop
 use Rattle.venice_run.specs.declared.ending.Ending.{Ending}
 use Rattle.venice_run.specs.declared.ending.Ending.TheVariants.{Refused, Failed}
 use Rattle.venice_run.specs.declared.ending.Fault.TheVariants.{File, Memory}
 use Rattle.venice_run.specs.declared.refusal.Kind.{Kind}
 use Rattle.venice_run.specs.declared.refusal.Kind.TheVariants as kind
 use Rattle.venice_run.specs.declared.refusal.Refusal.{Refusal}
-use Rattle.venice_run.specs.declared.refusal.Refusal.TheVariants.{Usage, FileMissing, TooLong, Parse, Check, Form, Scratchpad, Arrays, Fit}
+use Rattle.venice_run.specs.declared.refusal.Refusal.TheVariants.{Usage, FileMissing, TooLong, Parse, Check, Form, Scratchpad, Arrays, Fit, Grants, Image, Text, Machine}
 
 -- A part of a line: words (or a name), or a number in decimal.
 pub data Part : Type 0 where
@@ -88,6 +96,41 @@ fit_parts (fit_fault.TypeWrong name) = wrong_array (codes "type") name
 fit_parts (fit_fault.ShapeWrong name) = wrong_array (codes "shape") name
 fit_parts (fit_fault.Extra name) = wrong_array (codes "extra") name
 
+-- of each fault of a grant list's text
+abbrev pub grant_parts : GrantFault → List Part
+grant_parts (grant_fault.Bad at) = wrong_at kind.Grants (codes "bad") at
+grant_parts grant_fault.TooLong = Words (codes "grants too long") ∷ []
+grant_parts grant_fault.Memory = Words (codes "memory") ∷ []
+
+-- of each fault of an image's bytes
+abbrev pub image_parts : ImageFault → List Part
+image_parts (image_fault.Truncated at) = wrong_at kind.Image (codes "truncated") at
+image_parts image_fault.BadMagic = Words (codes "image magic") ∷ []
+image_parts (image_fault.BadTable at) = wrong_at kind.Image (codes "table") at
+image_parts (image_fault.BadInstr at) = wrong_at kind.Image (codes "instruction") at
+image_parts (image_fault.BadTarget at) = wrong_at kind.Image (codes "target") at
+image_parts image_fault.NoHalt = Words (codes "image no halt") ∷ []
+image_parts (image_fault.Trailing at) = wrong_at kind.Image (codes "trailing") at
+image_parts image_fault.Memory = Words (codes "memory") ∷ []
+
+-- of each fault of an assembler text
+abbrev pub assembler_parts : AsmFault → List Part
+assembler_parts (asm_fault.Unexpected at) = wrong_at kind.Text (codes "unexpected") at
+assembler_parts (asm_fault.FieldRange at) = wrong_at kind.Text (codes "range") at
+assembler_parts (asm_fault.LabelTwice at) = wrong_at kind.Text (codes "label twice") at
+assembler_parts (asm_fault.UnknownLabel at) = wrong_at kind.Text (codes "label unknown") at
+assembler_parts (asm_fault.Table at) = wrong_at kind.Text (codes "table") at
+assembler_parts asm_fault.NoHalt = Words (codes "text no halt") ∷ []
+assembler_parts asm_fault.Memory = Words (codes "memory") ∷ []
+
+-- of each reason for which a machine stops
+abbrev pub stop_parts : Stop → List Part
+stop_parts (machine_stop.Hazard pc cycle) =
+    Words (codes "machine hazard pc") ∷ Number pc ∷ Words (codes "cycle") ∷ Number cycle ∷ []
+stop_parts (machine_stop.OutOfRange pc) = Words (codes "machine out of range pc") ∷ Number pc ∷ []
+stop_parts (machine_stop.BadCount pc) = Words (codes "machine bad count pc") ∷ Number pc ∷ []
+stop_parts (machine_stop.Budget steps) = Words (codes "machine budget") ∷ Number steps ∷ []
+
 -- the parts of each refusal's line
 abbrev pub refusal_parts : Refusal → List Part
 refusal_parts Usage = Words (codes "usage") ∷ []
@@ -100,6 +143,10 @@ refusal_parts (Scratchpad shortage) =
     Words (codes "scratchpad need") ∷ Number shortage.need ∷ Words (codes "have") ∷ Number shortage.have ∷ []
 refusal_parts (Arrays fault) = array_parts fault
 refusal_parts (Fit fault) = fit_parts fault
+refusal_parts (Grants fault) = grant_parts fault
+refusal_parts (Image fault) = image_parts fault
+refusal_parts (Text fault) = assembler_parts fault
+refusal_parts (Machine stop) = stop_parts stop
 
 abbrev pub parts_of : Ending → List Part
 parts_of (Refused refusal) = refusal_parts refusal
@@ -139,6 +186,10 @@ refusal_status Form = 3
 refusal_status (Scratchpad shortage) = 5
 refusal_status (Arrays fault) = 4
 refusal_status (Fit fault) = 4
+refusal_status (Grants fault) = 4
+refusal_status (Image fault) = 6
+refusal_status (Text fault) = 6
+refusal_status (Machine stop) = 7
 
 abbrev pub memory_status : ℕ
 memory_status = 10

@@ -8,7 +8,7 @@ use Rattle.venice_run.specs.declared.ending.Ending.TheVariants.{Refused, Failed}
 use Rattle.venice_run.specs.declared.refusal.Refusal.TheVariants.{Form}
 use Rattle.venice_run.specs.Addition.{Addition, IsAddition, addition_need}
 use Rattle.venice_run.specs.Answer.{Answer, prints}
-use Rattle.venice_run.specs.Inputs.{inputs_under}
+use Rattle.venice_run.specs.Inputs.{input_table, inputs_under}
 use Rattle.venice_run.specs.Plan.{has_room}
 use Rattle.venice_run.specs.Programs.{program_under}
 use Rattle.venice_run.specs.Stage.{Stage, ◌>>=◌, ◌>>◌}
@@ -25,5 +25,5 @@ run files program inputs spad = do
   checked ← program_under files program
   addition ← addition_in checked
   has_room (addition_need addition) spad
-  arrays ← inputs_under files inputs checked
+  arrays ← inputs_under files inputs (input_table checked)
   prints (arrays_text (meaning_of checked arrays))

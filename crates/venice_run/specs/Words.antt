@@ -1,11 +1,14 @@
 -- The words of the command line, and the request that they spell.
-use Rattle.std.specs.Prelude.{◌≡◌, ℕ, ◌≤◌, List, [], ◌∷◌, map, codes, decimal, String}
+use Rattle.std.specs.Prelude.{◌≡◌, ℕ, ◌≤◌, List, [], ◌∷◌, map, codes, decimal, String, Option}
+use Rattle.std.specs.Option.{option_map, option_to_list, is_some}
 use Rattle.std.specs.String.{string_bytes}
 use Rattle.std.specs.declared.alloc.Global.{Global}
 use Rattle.venice_run.specs.declared.command.Command.{Command}
 use Rattle.venice_run.specs.declared.command.Command.TheVariants as command
 use Rattle.venice_run.specs.declared.request.Request.{Request}
-use Rattle.venice_run.specs.declared.request.Request.TheVariants.{Run, Eval, Check, Explain}
+use Rattle.venice_run.specs.declared.request.Request.TheVariants.{Run, Eval, Check, Explain, Exec, Asm, Disasm}
+use Rattle.venice_run.specs.declared.request.Resources.{Resources}
+use Rattle.venice_machine.specs.Run.{step_limit}
 
 -- the bytes of each word
 abbrev pub texts_of : List (String Global) → List (List ℕ)
@@ -22,6 +25,12 @@ most_scratchpad = 1048576
 abbrev pub IsUpTo : ℕ → ℕ → Type 0
 IsUpTo most n = (1 ≤ n) × (n ≤ most)
 
+-- the numbers of what a run may use, in range
+pub record AreInRange (resources : Resources) : Type 0 where
+  pub lanes : IsUpTo most_lanes resources.lanes
+  pub spad : IsUpTo most_scratchpad resources.spad
+  pub budget : IsUpTo step_limit resources.budget
+
 -- the words of each request: names of files as they are, numbers as they are printed
 abbrev pub words_of : Request → List (List ℕ)
 words_of (Run program inputs image lanes spad) =
@@ -29,11 +38,17 @@ words_of (Run program inputs image lanes spad) =
 words_of (Eval program inputs) = codes "eval" ∷ program.now ∷ inputs.now ∷ []
 words_of (Check program spad) = codes "check" ∷ program.now ∷ decimal spad ∷ []
 words_of (Explain program) = codes "explain" ∷ program.now ∷ []
+words_of (Exec image inputs resources grants) =
+    codes "exec" ∷ image.now ∷ inputs.now ∷ decimal resources.lanes ∷ decimal resources.spad ∷ decimal resources.budget
+    ∷ option_to_list (option_map (λ name. name.now) grants)
+words_of (Asm text image) = codes "asm" ∷ text.now ∷ image.now ∷ []
+words_of (Disasm image) = codes "disasm" ∷ image.now ∷ []
 
 -- the numbers of each request that are in range
 abbrev pub IsInRange : Request → Type 0
 IsInRange (Run program inputs image lanes spad) = IsUpTo most_lanes lanes × IsUpTo most_scratchpad spad
 IsInRange (Check program spad) = IsUpTo most_scratchpad spad
+IsInRange (Exec image inputs resources grants) = AreInRange resources
 IsInRange _ = Unit {0}
 
 -- the words spell the request
@@ -47,6 +62,10 @@ command_of (Run program inputs image lanes spad) = command.Run lanes spad
 command_of (Eval program inputs) = command.Eval
 command_of (Check program spad) = command.Check spad
 command_of (Explain program) = command.Explain
+command_of (Exec image inputs resources grants) =
+    command.Exec resources.lanes resources.spad resources.budget (is_some grants)
+command_of (Asm text image) = command.Asm
+command_of (Disasm image) = command.Disasm
 
 -- the words spell a request of this command
 pub record SpellsCommand (words : List (List ℕ)) (command : Command) : Type 0 where

@@ -33,6 +33,21 @@ impl<'a> Answer<'a> {
         }
     }
 
+    /// It saves the bytes under the name, and prints the text.
+    pub fn saving(name: &'a str, bytes: Vec<u8>, text: Vec<u8>) -> Answer<'a>
+        ensures { answer_of result ≡ record {
+          save = Some (record { name = name.now; bytes = bytes.items });
+          text = text.items;
+          stop = None;
+        } }
+    {
+        Answer {
+            save: Some(Save { name, bytes }),
+            text,
+            stop: None,
+        }
+    }
+
     /// The status that comes with it.
     pub fn status(&self) -> u8
         ensures { result ≡ answer_status (answer_of self.now) }

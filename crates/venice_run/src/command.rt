@@ -10,13 +10,30 @@ use crate::request::request_of;
 #[derive(Clone, Copy, Debug, PartialEq, Eq)]
 pub enum Command {
     /// `run PROGRAM INPUTS IMAGE LANES SPAD`: 1 to 4 lanes, a scratchpad of 1 to 1,048,576 bytes.
-    Run { lanes: u32, spad: u32 },
+    Run {
+        lanes: u32,
+        spad: u32,
+    },
     /// `eval PROGRAM INPUTS`.
     Eval,
     /// `check PROGRAM SPAD`: a scratchpad of 1 to 1,048,576 bytes.
-    Check { spad: u32 },
+    Check {
+        spad: u32,
+    },
     /// `explain PROGRAM`.
     Explain,
+    /// `exec IMAGE INPUTS LANES SPAD BUDGET [GRANTS]`: a budget of 1 to 1,099,511,627,776 steps; `grants` says whether
+    /// GRANTS is there.
+    Exec {
+        lanes: u32,
+        spad: u32,
+        budget: u64,
+        grants: bool,
+    },
+    /// `asm TEXT IMAGE`.
+    Asm,
+    /// `disasm IMAGE`.
+    Disasm,
 }
 
 /// The command that the words spell, or `None` exactly where they spell none. It takes no memory.

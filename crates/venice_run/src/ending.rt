@@ -7,8 +7,11 @@ use crate::line::{Part, line_with, refusal_line};
 use crate::refusal::{Refusal, Shortage};
 use array_file::ArrayFault;
 use array_syntax::ParseFault;
+use image_loader::ImageFault;
 use shape_check::CheckFault;
 use std::alloc::{AllocError, AllocFailed, Global};
+use venice_asm::AsmFault;
+use venice_machine::{GrantFault, Stop};
 
 /// A fault of the outside.
 #[derive(Clone, Copy, Debug, PartialEq, Eq)]
@@ -122,5 +125,54 @@ impl From<ArrayFault> for Ending {
             ArrayFault::Memory => Ending::Failed(Fault::Memory),
             fault => Ending::Refused(Refusal::Arrays(fault)),
         }
+    }
+}
+
+impl From<GrantFault> for Ending {
+    ghost use Rattle.venice_run.specs.Endings.{grant_ending};
+
+    ghost from_gives = { λ fault ending. ending ≡ grant_ending fault };
+
+    fn from(fault: GrantFault) -> Ending {
+        match fault {
+            GrantFault::Memory => Ending::Failed(Fault::Memory),
+            fault => Ending::Refused(Refusal::Grants(fault)),
+        }
+    }
+}
+
+impl From<ImageFault> for Ending {
+    ghost use Rattle.venice_run.specs.Endings.{image_ending};
+
+    ghost from_gives = { λ fault ending. ending ≡ image_ending fault };
+
+    fn from(fault: ImageFault) -> Ending {
+        match fault {
+            ImageFault::Memory => Ending::Failed(Fault::Memory),
+            fault => Ending::Refused(Refusal::Image(fault)),
+        }
+    }
+}
+
+impl From<AsmFault> for Ending {
+    ghost use Rattle.venice_run.specs.Endings.{assembler_ending};
+
+    ghost from_gives = { λ fault ending. ending ≡ assembler_ending fault };
+
+    fn from(fault: AsmFault) -> Ending {
+        match fault {
+            AsmFault::Memory => Ending::Failed(Fault::Memory),
+            fault => Ending::Refused(Refusal::Text(fault)),
+        }
+    }
+}
+
+impl From<Stop> for Ending {
+    ghost use Rattle.venice_run.specs.Endings.{machine_ending};
+
+    ghost from_gives = { λ stop ending. ending ≡ machine_ending stop };
+
+    fn from(stop: Stop) -> Ending {
+        Ending::Refused(Refusal::Machine(stop))
     }
 }

@@ -4,7 +4,7 @@ ghost use Rattle.std.specs.Prelude.{◌≡◌, ◌++◌, ◌<◌, ◌^◌, lengt
 ghost use Rattle.ven_io.specs.Files.{OnlyLoads};
 ghost use Rattle.shape_check.specs.Checked.{program_of, statement_of, IsWhole};
 ghost use Rattle.shape_check.specs.Meaning.{FitInputs};
-ghost use Rattle.venice_run.specs.Inputs.{input_entry, input_table as input_table_lem, fitting, inputs_in, inputs_under};
+ghost use Rattle.venice_run.specs.Inputs.{input_entry, input_table as input_table_lem, fitting, arrays_in, arrays_under, inputs_under};
 ghost use Rattle.venice_run.specs.Stage.{as_stage};
 
 use crate::ending::{Ending, Fault};
@@ -23,23 +23,35 @@ pub(crate) fn read_inputs<F: Files>(
     name: &str,
     program: &Checked,
 ) -> Result<Arrays, Ending>
-    ensures read { inputs_under (F.behaviour (F.state files.old).content) name.now (program_of program.now)
-        (as_stage (λ arrays. arrays) result) }
+    ensures read { inputs_under (F.behaviour (F.state files.old).content) name.now
+        (input_table_lem (program_of program.now)) (as_stage (λ arrays. arrays) result) }
     ensures only { OnlyLoads (F.state files.old) (F.state files.new) (IsErrOf result (Ending.Failed Fault.File)) }
     ensures fit { IfOk result (FitInputs (program_of program.now)) }
 {
-    let text = load_within(alloc, files, name, Kind::Inputs)?;
-    inputs_of_text(alloc, &text, program)
+    let arrays = load_arrays(alloc, files, name)?;
+    fit_inputs(alloc, arrays, program)
 }
 
-/// The arrays that the text gives to the program's inputs.
-fn inputs_of_text(alloc: Global, text: &[u8], program: &Checked) -> Result<Arrays, Ending>
-    requires { length text.now < 2 ^ 31 }
-    ensures read { inputs_in text.now (program_of program.now) (as_stage (λ arrays. arrays) result) }
-    ensures fit { IfOk result (FitInputs (program_of program.now)) }
+/// The arrays of the file under the name.
+pub(crate) fn load_arrays<F: Files>(
+    alloc: Global,
+    files: &mut F,
+    name: &str,
+) -> Result<Arrays, Ending>
+    ensures read { arrays_under (F.behaviour (F.state files.old).content) name.now
+        (as_stage (λ arrays. arrays) result) }
+    ensures only { OnlyLoads (F.state files.old) (F.state files.new) (IsErrOf result (Ending.Failed Fault.File)) }
 {
-    let arrays = read_arrays(alloc, text)?;
-    fit_inputs(alloc, arrays, program)
+    let text = load_within(alloc, files, name, Kind::Inputs)?;
+    arrays_of_text(alloc, &text)
+}
+
+/// The arrays of the text.
+fn arrays_of_text(alloc: Global, text: &[u8]) -> Result<Arrays, Ending>
+    requires { length text.now < 2 ^ 31 }
+    ensures { arrays_in text.now (as_stage (λ arrays. arrays) result) }
+{
+    Ok(read_arrays(alloc, text)?)
 }
 
 /// These arrays, where they fit the program's inputs.

@@ -16,6 +16,8 @@ pub fn one_answer<F: Files>()
     check_laws();
     array_file::one_reading();
     split_laws();
+    venice_asm::one_image();
+    venice_asm::one_answer();
 }
 
 /// The lines that a text is put in are the text.

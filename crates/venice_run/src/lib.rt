@@ -20,8 +20,9 @@
 //!   after it, and the status is 9; or memory ran out between two lines, with status 10. Where there is no memory for a
 //!   line, the line of memory that ran out is put in its place.
 //!
-//! The commands are `eval`, `check`, `explain` and `run`. Each has its stages, in the order of its refusals, as a definition in
-//! the file of its name in `specs`; `Programs`, `Inputs` and `Plan` there have the stages that commands share.
+//! The commands are `eval`, `check`, `explain`, `run`, `exec`, `asm` and `disasm`. Each has its stages, in the order of its
+//! refusals, as a definition in the file of its name in `specs`; `Programs`, `Inputs`, `Plan`, `Images` and `Grants` there have
+//! the stages that commands share. `asm` is the one that saves.
 //!
 //! Commands only read (`OnlyLoads`) and answer an `Answer`: a save, a text, and the refusal that the text ends in,
 //! where it ends in one. docs/ARCHITECTURE.md says how a command is added.
@@ -40,12 +41,17 @@
 
 mod addition;
 mod answer;
+mod asm;
 mod check;
 mod command;
+mod disasm;
 mod ending;
 mod eval;
+mod exec;
 mod executor;
 mod explain;
+mod grants;
+mod images;
 mod inputs;
 mod laws;
 mod line;

@@ -2,16 +2,19 @@
 
 ghost use Rattle.std.specs.Prelude.{◌≡◌, ◌∷◌, ◌++◌, [], map, IfOk, OnOk};
 ghost use Rattle.venice_run.specs.Explain.{numbers_line};
-ghost use Rattle.venice_run.specs.Line.{line_with as line_with_lem, refusal_parts, parse_parts, check_parts, array_parts, fit_parts, wrong_at, wrong_array, spaced, part_text, parts_text};
+ghost use Rattle.venice_run.specs.Line.{line_with as line_with_lem, refusal_parts, parse_parts, check_parts, array_parts, fit_parts, grant_parts, image_parts, assembler_parts, stop_parts, wrong_at, wrong_array, spaced, part_text, parts_text, Words, Number};
 ghost use Rattle.venice_run.specs.Parts.{part_of};
 
 use crate::refusal::{Kind, Refusal, Shortage};
 use array_file::{ArrayFault, FitFault};
 use array_syntax::ParseFault;
+use image_loader::ImageFault;
 use itoa::Buffer;
 use shape_check::CheckFault;
 use std::alloc::{AllocError, Global};
 use ven_base::Name;
+use venice_asm::AsmFault;
+use venice_machine::{GrantFault, Stop};
 
 /// A part of a line.
 #[derive(Clone, Copy)]
@@ -46,6 +49,10 @@ pub(crate) fn refusal_line(alloc: Global, refusal: Refusal) -> Result<Vec<u8>, A
         Refusal::Scratchpad(shortage) => scratchpad_line(alloc, shortage),
         Refusal::Arrays(fault) => array_line(alloc, fault),
         Refusal::Fit(fault) => fit_line(alloc, fault),
+        Refusal::Grants(fault) => grant_line(alloc, fault),
+        Refusal::Image(fault) => image_line(alloc, fault),
+        Refusal::Text(fault) => assembler_line(alloc, fault),
+        Refusal::Machine(stop) => stop_line(alloc, stop),
     }
 }
 
@@ -126,6 +133,78 @@ fn fit_line(alloc: Global, fault: FitFault) -> Result<Vec<u8>, AllocError>
         FitFault::ShapeWrong { name } => array_name_line(alloc, b"shape", name),
         FitFault::Extra { name } => array_name_line(alloc, b"extra", name),
     }
+}
+
+fn grant_line(alloc: Global, fault: GrantFault) -> Result<Vec<u8>, AllocError>
+    ensures { IfOk result (λ line. line.items ≡ line_with_lem (grant_parts fault)) }
+{
+    match fault {
+        GrantFault::Bad { at } => line_at(alloc, Kind::Grants, b"bad", at),
+        GrantFault::TooLong => line_with(alloc, &[Part::Words(b"grants too long")]),
+        GrantFault::Memory => line_with(alloc, &[Part::Words(b"memory")]),
+    }
+}
+
+fn image_line(alloc: Global, fault: ImageFault) -> Result<Vec<u8>, AllocError>
+    ensures { IfOk result (λ line. line.items ≡ line_with_lem (image_parts fault)) }
+{
+    let kind = Kind::Image;
+    match fault {
+        ImageFault::Truncated { at } => line_at(alloc, kind, b"truncated", at),
+        ImageFault::BadMagic => line_with(alloc, &[Part::Words(b"image magic")]),
+        ImageFault::BadTable { at } => line_at(alloc, kind, b"table", at),
+        ImageFault::BadInstr { at } => line_at(alloc, kind, b"instruction", at),
+        ImageFault::BadTarget { at } => line_at(alloc, kind, b"target", at),
+        ImageFault::NoHalt => line_with(alloc, &[Part::Words(b"image no halt")]),
+        ImageFault::Trailing { at } => line_at(alloc, kind, b"trailing", at),
+        ImageFault::Memory => line_with(alloc, &[Part::Words(b"memory")]),
+    }
+}
+
+fn assembler_line(alloc: Global, fault: AsmFault) -> Result<Vec<u8>, AllocError>
+    ensures { IfOk result (λ line. line.items ≡ line_with_lem (assembler_parts fault)) }
+{
+    let kind = Kind::Text;
+    match fault {
+        AsmFault::Unexpected { at } => line_at(alloc, kind, b"unexpected", at),
+        AsmFault::FieldRange { at } => line_at(alloc, kind, b"range", at),
+        AsmFault::LabelTwice { at } => line_at(alloc, kind, b"label twice", at),
+        AsmFault::UnknownLabel { at } => line_at(alloc, kind, b"label unknown", at),
+        AsmFault::Table { at } => line_at(alloc, kind, b"table", at),
+        AsmFault::NoHalt => line_with(alloc, &[Part::Words(b"text no halt")]),
+        AsmFault::Memory => line_with(alloc, &[Part::Words(b"memory")]),
+    }
+}
+
+/// Why the machine stopped; `pc` is an instruction's number, from 0.
+fn stop_line(alloc: Global, stop: Stop) -> Result<Vec<u8>, AllocError>
+    ensures { IfOk result (λ line. line.items ≡ line_with_lem (stop_parts stop)) }
+{
+    match stop {
+        Stop::Hazard { pc, cycle } => hazard_line(alloc, pc, cycle),
+        Stop::OutOfRange { pc } => { number_line(alloc, b"machine out of range pc", u64::from(pc)) }
+        Stop::BadCount { pc } => number_line(alloc, b"machine bad count pc", u64::from(pc)),
+        Stop::Budget { steps } => number_line(alloc, b"machine budget", steps),
+    }
+}
+
+fn hazard_line(alloc: Global, pc: u32, cycle: u64) -> Result<Vec<u8>, AllocError>
+    ensures { IfOk result (λ line. line.items ≡ line_with_lem (stop_parts (Stop.Hazard pc cycle))) }
+{
+    let parts = [
+        Part::Words(b"machine hazard pc"),
+        Part::Number(u64::from(pc)),
+        Part::Words(b"cycle"),
+        Part::Number(cycle),
+    ];
+    line_with(alloc, &parts)
+}
+
+/// Words and a number.
+fn number_line(alloc: Global, words: &[u8], number: u64) -> Result<Vec<u8>, AllocError>
+    ensures { IfOk result (λ line. line.items ≡ line_with_lem (Words words.now ∷ Number number ∷ [])) }
+{
+    line_with(alloc, &[Part::Words(words), Part::Number(number)])
 }
 
 fn scratchpad_line(alloc: Global, shortage: Shortage) -> Result<Vec<u8>, AllocError>

@@ -5,7 +5,10 @@ ghost use Rattle.venice_run.specs.Line.{kind_word, kind_status, refusal_status};
 
 use array_file::{ArrayFault, FitFault};
 use array_syntax::ParseFault;
+use image_loader::ImageFault;
 use shape_check::CheckFault;
+use venice_asm::AsmFault;
+use venice_machine::{GrantFault, Stop};
 
 /// The kinds of texts and files that commands read. Each has a limit on its length, a word and a status.
 #[derive(Clone, Copy, Debug, PartialEq, Eq)]
@@ -40,12 +43,20 @@ pub enum Refusal {
     Check(CheckFault),
     /// The program isn't of the one form that `run` can do.
     Form,
-    /// The scratchpad has fewer bytes than the program needs.
+    /// The scratchpad has fewer bytes than the program or the image needs.
     Scratchpad(Shortage),
     /// The array file has this fault.
     Arrays(ArrayFault),
-    /// The arrays don't fit the program's inputs.
+    /// The arrays don't fit the inputs of the program or the image.
     Fit(FitFault),
+    /// The grant list's text has this fault.
+    Grants(GrantFault),
+    /// The image's bytes have this fault.
+    Image(ImageFault),
+    /// The assembler text has this fault.
+    Text(AsmFault),
+    /// The machine stopped before `halt`.
+    Machine(Stop),
 }
 
 impl Kind {
@@ -83,7 +94,9 @@ impl Refusal {
             Refusal::TooLong(kind) => kind.status(),
             Refusal::Parse(_) | Refusal::Check(_) | Refusal::Form => 3,
             Refusal::Scratchpad(_) => 5,
-            Refusal::Arrays(_) | Refusal::Fit(_) => 4,
+            Refusal::Arrays(_) | Refusal::Fit(_) | Refusal::Grants(_) => 4,
+            Refusal::Image(_) | Refusal::Text(_) => 6,
+            Refusal::Machine(_) => 7,
         }
     }
 }

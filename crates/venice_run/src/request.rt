@@ -2,7 +2,7 @@
 
 ghost use Rattle.std.specs.Prelude.{◌≡◌, ◌↔◌, ℕ, decimal, IsTrue, MatchOption};
 ghost use Rattle.venice_run.specs.Words.{texts_of, Spells, IsUpTo, command_of};
-ghost use Rattle.venice_run.specs.Requests.{IsRun, IsEval, IsCheck, IsExplain};
+ghost use Rattle.venice_run.specs.Requests.{IsRun, IsEval, IsCheck, IsExplain, IsFreeExec, IsGrantedExec, IsAsm, IsDisasm, SpellResources};
 
 use crate::command::Command;
 use itoa::Buffer;
@@ -12,6 +12,17 @@ const MOST_LANES: u32 = 4;
 
 /// The greatest size of a scratchpad, in bytes.
 const MOST_SCRATCHPAD: u32 = 1_048_576;
+
+/// The most steps that a run may be allowed.
+const MOST_STEPS: u64 = 1_099_511_627_776;
+
+/// What a run may use: lanes, bytes of scratchpad, and steps.
+#[derive(Clone, Copy)]
+pub(crate) struct Resources {
+    pub lanes: u32,
+    pub spad: u32,
+    pub budget: u64,
+}
 
 /// A command with its names and numbers.
 #[derive(Clone, Copy)]
@@ -34,6 +45,19 @@ pub(crate) enum Request<'a> {
     Explain {
         program: &'a str,
     },
+    Exec {
+        image: &'a str,
+        inputs: &'a str,
+        resources: Resources,
+        grants: Option<&'a str>,
+    },
+    Asm {
+        text: &'a str,
+        image: &'a str,
+    },
+    Disasm {
+        image: &'a str,
+    },
 }
 
 impl Request<'_> {
@@ -45,6 +69,18 @@ impl Request<'_> {
             Request::Eval { .. } => Command::Eval,
             Request::Check { spad, .. } => Command::Check { spad },
             Request::Explain { .. } => Command::Explain,
+            Request::Exec {
+                resources,
+                grants,
+                ..
+            } => Command::Exec {
+                lanes: resources.lanes,
+                spad: resources.spad,
+                budget: resources.budget,
+                grants: grants.is_some(),
+            },
+            Request::Asm { .. } => Command::Asm,
+            Request::Disasm { .. } => Command::Disasm,
         }
     }
 }
@@ -63,7 +99,19 @@ pub(crate) fn request_of(words: &[String]) -> Option<Request<'_>>
     if let Some(request) = check_request(words) {
         return Some(request);
     }
-    explain_request(words)
+    if let Some(request) = explain_request(words) {
+        return Some(request);
+    }
+    if let Some(request) = free_exec_request(words) {
+        return Some(request);
+    }
+    if let Some(request) = granted_exec_request(words) {
+        return Some(request);
+    }
+    if let Some(request) = asm_request(words) {
+        return Some(request);
+    }
+    disasm_request(words)
 }
 
 fn run_request(words: &[String]) -> Option<Request<'_>>
@@ -127,19 +175,111 @@ fn explain_request(words: &[String]) -> Option<Request<'_>>
     Some(Request::Explain { program })
 }
 
+/// `exec` without GRANTS.
+fn free_exec_request(words: &[String]) -> Option<Request<'_>>
+    ensures { MatchOption result ((request : Request) → IsFreeExec request → ¬ Spells (texts_of words.now) request)
+        (Spells (texts_of words.now)) }
+{
+    let [word, image, inputs, lanes, spad, budget] = words else {
+        return None;
+    };
+    if word.as_str() != "exec" {
+        return None;
+    }
+    let resources = read_resources(lanes, spad, budget)?;
+    Some(Request::Exec {
+        image,
+        inputs,
+        resources,
+        grants: None,
+    })
+}
+
+/// `exec` with GRANTS.
+fn granted_exec_request(words: &[String]) -> Option<Request<'_>>
+    ensures { MatchOption result ((request : Request) → IsGrantedExec request → ¬ Spells (texts_of words.now) request)
+        (Spells (texts_of words.now)) }
+{
+    let [word, image, inputs, lanes, spad, budget, grants] = words else {
+        return None;
+    };
+    if word.as_str() != "exec" {
+        return None;
+    }
+    let resources = read_resources(lanes, spad, budget)?;
+    Some(Request::Exec {
+        image,
+        inputs,
+        resources,
+        grants: Some(grants),
+    })
+}
+
+fn asm_request(words: &[String]) -> Option<Request<'_>>
+    ensures { MatchOption result ((request : Request) → IsAsm request → ¬ Spells (texts_of words.now) request)
+        (Spells (texts_of words.now)) }
+{
+    let [word, text, image] = words else {
+        return None;
+    };
+    if word.as_str() != "asm" {
+        return None;
+    }
+    Some(Request::Asm { text, image })
+}
+
+fn disasm_request(words: &[String]) -> Option<Request<'_>>
+    ensures { MatchOption result ((request : Request) → IsDisasm request → ¬ Spells (texts_of words.now) request)
+        (Spells (texts_of words.now)) }
+{
+    let [word, image] = words else {
+        return None;
+    };
+    if word.as_str() != "disasm" {
+        return None;
+    }
+    Some(Request::Disasm { image })
+}
+
+/// What a run may use, as these words spell it.
+fn read_resources(lanes: &str, spad: &str, budget: &str) -> Option<Resources>
+    ensures { MatchOption result ((resources : Resources) → ¬ SpellResources lanes.now spad.now budget.now resources)
+        (SpellResources lanes.now spad.now budget.now) }
+{
+    let lanes = number_up_to(MOST_LANES, lanes)?;
+    let spad = number_up_to(MOST_SCRATCHPAD, spad)?;
+    let budget = long_number_up_to(MOST_STEPS, budget)?;
+    Some(Resources {
+        lanes,
+        spad,
+        budget,
+    })
+}
+
 /// The number from 1 to `most` that the text is the plain decimal of.
 fn number_up_to(most: u32, text: &str) -> Option<u32>
     ensures { MatchOption result ((n : ℕ) → IsUpTo most n → text.now ≡ decimal n → ⊥)
         (λ n. IsUpTo most n × (text.now ≡ decimal n)) }
 {
-    match text.parse::<u32>() {
+    match long_number_up_to(u64::from(most), text) {
+        Some(number) => Some(number as u32),
+        None => None,
+    }
+}
+
+/// The same for numbers of 64 bits.
+fn long_number_up_to(most: u64, text: &str) -> Option<u64>
+    ensures { MatchOption result ((n : ℕ) → IsUpTo most n → text.now ≡ decimal n → ⊥)
+        (λ n. IsUpTo most n × (text.now ≡ decimal n)) }
+{
+    match text.parse::<u64>() {
         Ok(number) if number != 0 && number <= most && is_plain(number, text) => Some(number),
         _ => None,
     }
 }
 
 /// Whether the text is what the number prints.
-fn is_plain(number: u32, text: &str) -> bool
+fn is_plain(number: u64, text: &str) -> bool
     ensures { IsTrue result ↔ (text.now ≡ decimal number) }
 {
     Buffer::new().format(number) == text

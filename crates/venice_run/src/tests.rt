@@ -1,6 +1,7 @@
 //! The top call over files and sinks in memory, and the texts that it prints.
 
 mod commands;
+mod images;
 
 use crate::answer::{Answer, Save};
 use crate::reading::load_within;
@@ -72,31 +73,30 @@ fn sums_are_printed_for_each_number_of_lanes(rt: HostRuntime) -> Result<(), Fail
     Ok(())
 }
 
+/// Words of no command's form. More of them stand in the transcripts in tests/cli.
+static OTHER_WORDS: [&[&str]; 16] = [
+    &[],
+    &["walk", "P", "I", "M", "4", "28"],
+    &["eval", "P", "I", "7"],
+    &["check", "P", "07"],
+    &["explain", "P", "I"],
+    &["run", "P", "I", "M", "4", "28", "G"],
+    &["run", "P", "I", "M", "5", "28"],
+    &["run", "P", "I", "M", "+4", "28"],
+    &["run", "P", "I", "M", "4", "0"],
+    &["run", "P", "I", "M", "4", "1048577"],
+    &["asm", "T", "M", "1"],
+    &["disasm"],
+    &["exec", "M", "I", "1", "1"],
+    &["exec", "M", "I", "1", "1", "1", "G", "H"],
+    &["exec", "M", "I", "1", "1", "0"],
+    &["exec", "M", "I", "1", "1", "1099511627777", "G"],
+];
+
 #[test]
 fn other_words_are_usage(rt: HostRuntime) -> Result<(), Fail> {
     let alloc = rt.alloc();
-    let cases: [&[&str]; 19] = [
-        &["eval"],
-        &["eval", "P"],
-        &["eval", "P", "I", "7"],
-        &["check", "P"],
-        &["check", "P", "07"],
-        &["check", "P", "1048577"],
-        &["explain", "P", "I"],
-        &[],
-        &["run"],
-        &["run", "a", "b"],
-        &["walk", "P", "I", "M", "4", "28"],
-        &["run", "P", "I", "M", "4", "28", "G"],
-        &["run", "P", "I", "M", "0", "28"],
-        &["run", "P", "I", "M", "5", "28"],
-        &["run", "P", "I", "M", "04", "28"],
-        &["run", "P", "I", "M", "+4", "28"],
-        &["run", "P", "I", "M", "4", "0"],
-        &["run", "P", "I", "M", "4", "028"],
-        &["run", "P", "I", "M", "4", "1048577"],
-    ];
-    for words in cases {
+    for words in &OTHER_WORDS {
         assert_eq!(rt; read_words(&owned(alloc, words)?), None);
         let (status, text) = reply(alloc, words, PROGRAM, INPUTS)?;
         assert_eq!(rt; status, 2);
@@ -109,7 +109,8 @@ fn other_words_are_usage(rt: HostRuntime) -> Result<(), Fail> {
 fn words_spell_their_command(rt: HostRuntime) -> Result<(), Fail> {
     let alloc = rt.alloc();
     let spad = 1_048_576;
-    let cases: [(&[&str], Command); 4] = [
+    let budget = 1_099_511_627_776;
+    let cases: [(&[&str], Command); 8] = [
         (
             &["run", "P", "I", "M", "4", "1048576"],
             Command::Run { lanes: 4, spad },
@@ -117,6 +118,26 @@ fn words_spell_their_command(rt: HostRuntime) -> Result<(), Fail> {
         (&["eval", "P", "I"], Command::Eval),
         (&["check", "P", "1048576"], Command::Check { spad }),
         (&["explain", "P"], Command::Explain),
+        (
+            &["exec", "M", "I", "1", "1048576", "1099511627776"],
+            Command::Exec {
+                lanes: 1,
+                spad,
+                budget,
+                grants: false,
+            },
+        ),
+        (
+            &["exec", "M", "I", "4", "1048576", "1099511627776", "G"],
+            Command::Exec {
+                lanes: 4,
+                spad,
+                budget,
+                grants: true,
+            },
+        ),
+        (&["asm", "T", "M"], Command::Asm),
+        (&["disasm", "M"], Command::Disasm),
     ];
     for (words, command) in cases {
         assert_eq!(rt; read_words(&owned(alloc, words)?), Some(command));
@@ -216,26 +237,28 @@ fn a_program_has_up_to_65536_bytes(rt: HostRuntime) -> Result<(), Fail> {
     Ok(())
 }
 
+/// The scratchpad, which load fails, which put fails, the status, and what the sink has taken. INPUTS is loaded only once
+/// the scratchpad was found large enough, and no third load is made.
+static OUTSIDE_FAULTS: [(&str, u64, u64, u8, &str); 7] = [
+    ("28", 0, 0, 0, SUMS),
+    ("28", 0, 2, 9, "y u8[1,4]\n5 7 "),
+    ("28", 1, 0, 8, "error: file\n"),
+    ("28", 2, 0, 8, "error: file\n"),
+    ("28", 3, 0, 0, SUMS),
+    ("27", 2, 0, 5, "error: scratchpad need 28 have 27\n"),
+    ("28", 1, 1, 9, "error:"),
+];
+
 #[test]
 fn faults_of_the_outside_have_their_status(rt: HostRuntime) -> Result<(), Fail> {
     let alloc = rt.alloc();
-    // The scratchpad, which load fails, which put fails, the status, and what the sink has taken.
-    // INPUTS is loaded only once the scratchpad was found large enough, and no third load is made.
-    let cases: [(&str, u64, u64, u8, &[u8]); 7] = [
-        ("28", 0, 0, 0, b"y u8[1,4]\n5 7 9 4\n"),
-        ("28", 0, 2, 9, b"y u8[1,4]\n5 7 "),
-        ("28", 1, 0, 8, b"error: file\n"),
-        ("28", 2, 0, 8, b"error: file\n"),
-        ("28", 3, 0, 0, b"y u8[1,4]\n5 7 9 4\n"),
-        ("27", 2, 0, 5, b"error: scratchpad need 28 have 27\n"),
-        ("28", 1, 1, 9, b"error:"),
-    ];
-    for (spad, load, put, want, taken) in cases {
+    for row in &OUTSIDE_FAULTS {
+        let (spad, load, put, want, taken) = *row;
         let mut files = files_with(alloc, PROGRAM, INPUTS, vec![in alloc; load]?)?;
         let mut out = MemSink::new(alloc, vec![in alloc; put]?);
         let words = ["run", "P", "I", "M", "4", spad];
         assert_eq!(rt; status(alloc, &words, &mut files, &mut out)?, want);
-        assert_eq!(rt; out.taken(), taken);
+        assert_eq!(rt; out.taken(), taken.as_bytes());
         assert_eq!(rt; files.get("P"), Some(PROGRAM.as_bytes()));
         assert_eq!(rt; files.get("I"), Some(INPUTS.as_bytes()));
         assert_eq!(rt; files.get("M"), None);

@@ -7,12 +7,15 @@ ghost use Rattle.venice_run.specs.Commands.{answer_to as answer_to_lem, stages_o
 ghost use Rattle.venice_run.specs.Outcomes.{outcome_of, SaveEnds};
 ghost use Rattle.venice_run.specs.Promise.{Promise, moment, Comes, SaysOutcome, SaysEnding, Stopped, NotSaved};
 ghost use Rattle.venice_run.specs.Stage.{as_stage};
-ghost use Rattle.venice_run.specs.Words.{texts_of};
+ghost use Rattle.venice_run.specs.Words.{texts_of, IsInRange};
 
 use crate::answer::{Answer, Save};
+use crate::asm::asm;
 use crate::check::check;
+use crate::disasm::disasm;
 use crate::ending::{Ending, Fault, MEMORY_STATUS};
 use crate::eval::eval;
+use crate::exec::exec;
 use crate::explain::explain;
 use crate::lines::{put_line, put_text};
 use crate::refusal::Refusal;
@@ -74,6 +77,7 @@ fn comes_to<'a, F: Files>(
     files: &mut F,
     request: Request<'a>,
 ) -> Result<Answer<'a>, Ending>
+    requires { IsInRange request }
     ensures answer { stages_of (F.behaviour (F.state files.old).content) request.entry (as_stage answer_of result) }
     ensures only { OnlyLoads (F.state files.old) (F.state files.new) (IsErrOf result (Ending.Failed Fault.File)) }
 {
@@ -87,6 +91,14 @@ fn comes_to<'a, F: Files>(
         Request::Eval { program, inputs } => eval(alloc, files, program, inputs),
         Request::Check { program, spad } => check(alloc, files, program, spad),
         Request::Explain { program } => explain(alloc, files, program),
+        Request::Exec {
+            image,
+            inputs,
+            resources,
+            grants,
+        } => exec(alloc, files, image, inputs, resources, grants),
+        Request::Asm { text, image } => asm(alloc, files, text, image),
+        Request::Disasm { image } => disasm(alloc, files, image),
     }
 }
 

@@ -14,5 +14,8 @@ returns g c = λ content shows words first second comes comes_too plain plain_to
       at_faults = c.one_reading-2.ensures.at_faults;
       array_answers = c.one_reading-2.ensures.answer;
       splits = c.split_laws.ensures.one;
+      texts = c.one_image.ensures.one;
+      at_text_faults = c.one_image.ensures.at_faults;
+      text_answers = c.one_answer.ensures;
     })
     first second comes comes_too plain plain_too

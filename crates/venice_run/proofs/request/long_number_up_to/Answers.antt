@@ -1,6 +1,6 @@
 use Rattle.std.proofs.Common.{arith}
 use Rattle.venice_run.proofs.Requests.{is_read, not_refused, not_plain}
-use Rattle.venice_run.proofs.request.number_up_to.Goals as goal
+use Rattle.venice_run.proofs.request.long_number_up_to.Goals as goal
 
 pub returns-in_default : goal.returns-in_default
 returns-in_default c = λ n in_range is.
