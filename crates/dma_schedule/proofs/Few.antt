@@ -3,22 +3,22 @@ use Rattle.std.proofs.Common.{◌≡◌, inl, inr, ℕ, zero, suc, ◌+◌, ◌�
 use Rattle.std.specs.Prelude.{map}
 use Rattle.venice_isa.specs.declared.issue.Issue.{Issue}
 use Rattle.dma_segments.proofs.Lists.{Each, EachPair}
-use Rattle.dma_schedule.specs.Pipelined.{AreFew}
+use Rattle.dma_schedule.specs.Pipelined.{HasAtMost}
 
 module _ (Is : Issue → Type 0) where
-  pub few_none : (issues : List Issue) (most : ℕ) → Each (λ issue. ¬ Is issue) issues → AreFew Is issues most
+  pub few_none : (issues : List Issue) (most : ℕ) → Each (λ issue. ¬ Is issue) issues → HasAtMost Is issues most
   few_none [] most none = tt
   few_none (issue ∷ issues) most none = inl (none.0, few_none issues most none.1)
 
-  pub few_all : (issues : List Issue) (most : ℕ) → length issues ≤ most → AreFew Is issues most
+  pub few_all : (issues : List Issue) (most : ℕ) → length issues ≤ most → HasAtMost Is issues most
   few_all [] most few = tt
   few_all (issue ∷ issues) zero few = absurd (omega arith)
   few_all (issue ∷ issues) (suc most) few = inr (most, refl, few_all issues most (omega arith))
 
-  pub few_append : (first second : List Issue) (a b : ℕ) → AreFew Is first a → AreFew Is second b → AreFew Is (first ++ second) (a + b)
+  pub few_append : (first second : List Issue) (a b : ℕ) → HasAtMost Is first a → HasAtMost Is second b → HasAtMost Is (first ++ second) (a + b)
   few_append [] second a b one other = few_more second b (a + b) (omega arith) other
     where
-      few_more : (issues : List Issue) (few more : ℕ) → few ≤ more → AreFew Is issues few → AreFew Is issues more
+      few_more : (issues : List Issue) (few more : ℕ) → few ≤ more → HasAtMost Is issues few → HasAtMost Is issues more
       few_more [] few more less is = tt
       few_more (issue ∷ issues) few more less (inl none) = inl (none.0, few_more issues few more less none.1)
       few_more (issue ∷ issues) few zero less (inr some) = absurd (omega (arith, some.1))

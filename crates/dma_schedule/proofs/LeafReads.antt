@@ -36,7 +36,7 @@ use Rattle.dma_segments.proofs.Values.{leaf_cells, reads_show}
 use Rattle.dma_segments.proofs.Lists.{Each, AtLeastOne, EachPair, each_all, all_each, each_map, each_append, each_weaker, one_any, any_one, one_map, one_left, one_right, pairs_map, pairs_all, all_pairs, pairs_append}
 use Rattle.dma_schedule.specs.Blocks.{leaf_half}
 use Rattle.dma_schedule.specs.PipeList.{leaf_segments, leaf_reads, tile_reads}
-use Rattle.dma_schedule.specs.Pipelined.{AreFew, IsTaggedRead, WriteApart, WritesHalf, AreReads}
+use Rattle.dma_schedule.specs.Pipelined.{HasAtMost, IsTaggedRead, WriteApart, WritesHalf, AreReads}
 use Rattle.dma_schedule.specs.Zone.{Zone, leaf, scratch, output, source, piece, elsewhere, KeepsTo, AreApart, IsLeafHalf}
 use Rattle.dma_schedule.proofs.Places.{zone_of_cell, leaf_zone, leaf_lies, leaf_within}
 use Rattle.dma_schedule.proofs.Covers.{leaf_below}
@@ -316,7 +316,7 @@ module _ (arrays : List ArrayPlace) (memory : ℕ) (later : List ℕ) (spad : �
       numbers_differ number other half before same = let e : number ≡ other = cc in omega arith
 
   reads_few : (count number t : ℕ) → count ≤ length pass.leaves → number < count → t < tiles_of pass.domain tile
-      → AreFew (WritesHalf pass tile 0 number t) (tile_reads arrays pass tile count t) (moves (leaf_of pass number).map (piece_of pass.domain tile t))
+      → HasAtMost (WritesHalf pass tile 0 number t) (tile_reads arrays pass tile count t) (moves (leaf_of pass number).map (piece_of pass.domain tile t))
   reads_few zero number t few below within = absurd (omega (arith, below))
   reads_few (suc last) number t few below within =
       let most = moves (leaf_of pass number).map (piece_of pass.domain tile t) in
@@ -327,10 +327,10 @@ module _ (arrays : List ArrayPlace) (memory : ℕ) (later : List ℕ) (spad : �
       let more : most + 0 ≡ most = omega arith in
       let none : 0 + most ≡ most = omega arith in
       elim cases [
-        | inl old ↦ subst (AreFew Is (one ++ other)) more
+        | inl old ↦ subst (HasAtMost Is (one ++ other)) more
             (few_append Is one other most 0 (reads_few last number t (omega arith) old within)
             (few_none Is other 0 (each_weaker (LeafKeeps last t (omega arith) within) (λ issue. ¬ Is issue) (not_of_leaf last number t (omega arith) within (omega arith) old) other (leaf_keeps last t (omega arith) within))))
-        | inr new ↦ subst (AreFew Is (one ++ other)) none
+        | inr new ↦ subst (HasAtMost Is (one ++ other)) none
             (few_append Is one other 0 most
             (few_none Is one 0 (each_weaker (Keeps last t) (λ issue. ¬ Is issue) (not_written last number t (omega arith) (omega arith)) one (reads_keep last t (omega arith) within)))
             (few_all Is other most (subst (λ n. length other ≤ moves (leaf_of pass n).map (piece_of pass.domain tile t)) (sym new) (leaf_few last t (omega arith) within))))

@@ -1,7 +1,6 @@
 -- What the code needs to know of a pass that is ready: its numbers are small.
-use Rattle.std.proofs.Common.{◌≡◌, ℕ, zero, suc, ◌+◌, ◌*◌, ◌/◌, ◌^◌, ◌<◌, ◌≤◌, max, sym, subst, ap, ◌∙◌, arith, List, [], ◌∷◌, ◌++◌, length, length-append, cond, get_or}
-use Rattle.std.proofs.lemmas.Nat.{div-mul-add, mul-le}
-use Rattle.std.proofs.lemmas.List.Elements.{All-nil, All-cons}
+use Rattle.std.proofs.Common.{ℕ, zero, suc, ◌+◌, ◌*◌, ◌^◌, ◌<◌, ◌≤◌, max, sym, subst, arith, List, [], ◌∷◌, ◌++◌, length, length-append, cond, get_or}
+use Rattle.std.proofs.lemmas.Nat.{mul-le}
 use Rattle.std.proofs.Math.Nat.{mul-le-mul_right}
 use Rattle.pass_plan.specs.declared.parts.Tile.{Tile}
 use Rattle.pass_plan.specs.declared.split.ArrayPlace.{ArrayPlace}
@@ -10,7 +9,7 @@ use Rattle.pass_plan.specs.declared.pass.PassKind.TheVariants.{Map, Reduce}
 use Rattle.pass_plan.specs.Tree as tree
 use Rattle.pass_plan.specs.Tree.{TreeOver, AtLeaf, leaves_of}
 use Rattle.pass_plan.specs.Pass.{Pass}
-use Rattle.pass_plan.specs.Need.{buffers_of, widest_in, pass_need, need_of, result_buffers, IsSmall, AreSmall}
+use Rattle.pass_plan.specs.Need.{buffers_of, widest_in, result_buffers, IsSmall}
 use Rattle.pass_plan.specs.Tile.{tile_of, tiles_of, across, IsTileOf}
 use Rattle.pass_plan.specs.Buffers.{buffer_bytes, is_map, tiles_per_row}
 use Rattle.pass_plan.specs.Sound.{CountUp}
@@ -47,22 +46,12 @@ leaves_nodes (tree.Move elem a) = omega (arith, leaves_nodes a)
 leaves_nodes (tree.Select elem c x y) =
     omega (arith, leaves_nodes c, leaves_nodes x, leaves_nodes y, length-append (leaves_of c) (leaves_of x ++ leaves_of y), length-append (leaves_of x) (leaves_of y))
 
-need_of_one : (pass : Pass) → need_of (pass ∷ []) ≡ pass_need pass
-need_of_one pass = omega arith
-
 some_buffers : (pass : Pass) → 1 ≤ buffers_of pass
 some_buffers pass = go (buffers_of pass) (need_some pass)
   where
     go : (n : ℕ) → 1 ≤ n * widest_in pass → 1 ≤ n
     go zero some = absurd (omega arith)
     go (suc n) some = omega arith
-
--- the widest element, by the need and the number of buffers
-pub widest_is : (pass : Pass) (need buffers : ℕ) → need ≡ need_of (pass ∷ []) → buffers ≡ buffers_of pass → need / buffers ≡ widest_in pass
-widest_is pass need buffers is counts =
-    let n = buffers_of pass in
-    let turned : n * widest_in pass ≡ widest_in pass * n + 0 = omega arith in
-    ap (λ x. x / buffers) (is ∙ need_of_one pass) ∙ ap (λ n. pass_need pass / n) counts ∙ ap (λ x. x / n) turned ∙ div-mul-add (widest_in pass) n 0 (some_buffers pass)
 
 module _ (arrays : List ArrayPlace) (pass : Pass) (tile : Tile) (ready : IsReady arrays pass tile) where
   plan : IsPlanned arrays ready.memory ready.later ready.spad pass
@@ -73,9 +62,6 @@ module _ (arrays : List ArrayPlace) (pass : Pass) (tile : Tile) (ready : IsReady
     few_leaves = omega (arith, count_most (leaves_of pass.tree) 0 (length pass.leaves) plan.sound.numbered, leaves_nodes pass.tree, plan.sound.few_nodes);
     few_nodes = plan.sound.few_nodes;
   }
-
-  pub all_small : AreSmall (pass ∷ [])
-  all_small = record { few = omega arith; each = All-cons IsSmall pass [] small (All-nil IsSmall) }
 
   pub is_tile : IsTileOf pass tile
   is_tile = record { spad = ready.spad; holds = plan.holds; is = ready.is }

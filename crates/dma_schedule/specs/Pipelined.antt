@@ -18,10 +18,10 @@ use Rattle.dma_segments.specs.Laws.{leaf_of}
 use Rattle.dma_schedule.specs.Blocks.{Blocks, leaf_half, write_tag, pass_list}
 
 -- at most so many of the list are of a kind
-abbrev pub AreFew : (Is : Issue → Type 0) → List Issue → (most : ℕ) → Type 0
-AreFew Is [] most = Unit {0}
-AreFew Is (issue ∷ issues) most =
-    (¬ Is issue × AreFew Is issues most) ⊎ ((fewer : ℕ) × (most ≡ suc fewer) × AreFew Is issues fewer)
+abbrev pub HasAtMost : (Is : Issue → Type 0) → List Issue → (most : ℕ) → Type 0
+HasAtMost Is [] most = Unit {0}
+HasAtMost Is (issue ∷ issues) most =
+    (¬ Is issue × HasAtMost Is issues most) ⊎ ((fewer : ℕ) × (most ≡ suc fewer) × HasAtMost Is issues fewer)
 
 -- a read with the tag, which writes no byte twice
 abbrev pub IsTaggedRead : (tag : ℕ) → Issue → Type 0
@@ -47,7 +47,7 @@ module _ (pass : Pass) (tile : Tile) (place : ℕ) where
   pub record AreReads (t : ℕ) (block : List Issue) : Type 0 where
     pub are_reads : All (IsTaggedRead (leaf_half t)) block
     pub few : (number : ℕ) → number < length pass.leaves
-        → AreFew (WritesHalf number t) block (moves (leaf_of pass number).map (piece_of pass.domain tile t))
+        → HasAtMost (WritesHalf number t) block (moves (leaf_of pass number).map (piece_of pass.domain tile t))
     pub only : All (λ issue. (p : ℕ) → Writes issue (in_cells p)
         → (number : ℕ) × IsLeafPlace pass tile number t p) block
     pub each : (number p : ℕ) → IsLeafPlace pass tile number t p → Any (λ issue. Writes issue (in_cells p)) block

@@ -1,7 +1,5 @@
 //! The numbers of a pass's buffers and tiles (docs/COMPILER.md, "Need, tiles and bound").
 ghost use Rattle.std.specs.Prelude.{◌≡◌, ◌<◌, ◌*◌, length};
-ghost use Rattle.pass_plan.specs.Label.{label_of};
-ghost use Rattle.pass_plan.specs.Need.{widest_in, buffers_of, result_buffers};
 ghost use Rattle.pass_plan.specs.Tile.{tile_of, tiles_of};
 ghost use Rattle.pass_plan.specs.Buffers as plan;
 ghost use Rattle.pass_plan.specs.Shown.{pass_of};
@@ -10,7 +8,7 @@ ghost use Rattle.dma_schedule.specs.PipeList as spec;
 ghost use Rattle.dma_schedule.specs.Plan.{IsReady};
 
 use pass_plan::parts::{Piece, Tile};
-use pass_plan::{ArrayPlace, Pass, PassKind, label, need, piece};
+use pass_plan::{ArrayPlace, Pass, PassKind, label, piece, tiles_per_row, widest};
 use ven_base::Shape;
 
 /// How many leaves the pass has.
@@ -21,24 +19,13 @@ pub fn leaf_count(arrays: &[ArrayPlace], pass: &Pass, tile: Tile) -> u32
     pass.leaves.len() as u32
 }
 
-/// How many tiles a row of results takes: those side by side in a reduction.
-pub fn tiles_per_row(arrays: &[ArrayPlace], pass: &Pass, tile: Tile) -> u32
-    requires { IsReady arrays.now (pass_of pass.now) tile }
-    ensures { result ≡ plan.tiles_per_row (pass_of pass.now) tile }
-{
-    match pass.kind {
-        PassKind::Map => 1,
-        PassKind::Reduce(_) => pass.domain.cols.div_ceil(tile.w),
-    }
-}
-
 /// Whether tile `t` is the last of its row of results.
 pub fn ends_row(arrays: &[ArrayPlace], pass: &Pass, tile: Tile, t: u32) -> bool
     requires ready { IsReady arrays.now (pass_of pass.now) tile }
     requires within { t < tiles_of pass.now.domain tile }
     ensures { result ≡ plan.ends_row (pass_of pass.now) tile t }
 {
-    (t + 1) % tiles_per_row(arrays, pass, tile) == 0
+    (t + 1) % tiles_per_row(pass, tile) == 0
 }
 
 /// The output half of tile `t`: 0 or 1.
@@ -47,26 +34,7 @@ pub fn output_half(arrays: &[ArrayPlace], pass: &Pass, tile: Tile, t: u32) -> u3
     ensures half { result ≡ plan.output_half (pass_of pass.now) tile t }
     ensures small { result < 2 }
 {
-    t / tiles_per_row(arrays, pass, tile) % 2
-}
-
-/// How many buffers hold the pass's results.
-fn result_buffers(kind: PassKind) -> u64
-    ensures { result ≡ result_buffers kind }
-{
-    match kind {
-        PassKind::Map => 2,
-        PassKind::Reduce(_) => 3,
-    }
-}
-
-/// How many buffers the pass has.
-fn buffers(arrays: &[ArrayPlace], pass: &Pass, tile: Tile) -> u64
-    requires { IsReady arrays.now (pass_of pass.now) tile }
-    ensures { result ≡ buffers_of (pass_of pass.now) }
-{
-    let leaves = 2 * pass.leaves.len() as u64;
-    leaves + u64::from(label(&pass.tree)) + result_buffers(pass.kind)
+    t / tiles_per_row(pass, tile) % 2
 }
 
 /// The bytes of a buffer.
@@ -74,8 +42,7 @@ pub fn buffer_bytes(arrays: &[ArrayPlace], pass: &Pass, tile: Tile) -> u32
     requires { IsReady arrays.now (pass_of pass.now) tile }
     ensures { result ≡ plan.buffer_bytes (pass_of pass.now) tile }
 {
-    let widest = need(std::slice::from_ref(pass)) / buffers(arrays, pass, tile);
-    tile.h * tile.w * widest as u32
+    tile.h * tile.w * widest(pass)
 }
 
 /// The first cell of a leaf's half for tile `t`.

@@ -6,12 +6,11 @@ use Rattle.venice_machine.specs.Run.{all_units}
 use Rattle.std.specs.Prelude.{All}
 use Rattle.ven_base.specs.Store.{Store, store_size}
 use Rattle.venice_isa.specs.Flight.{IsDisciplined}
-use Rattle.venice_isa.specs.Beat.{sequential}
+use Rattle.venice_isa.specs.Beat.{sequential, beats_of_all}
 use Rattle.venice_isa.specs.Host.{start, passed_in}
 use Rattle.venice_machine.specs.declared.stop.End.{End}
 use Rattle.venice_machine.specs.State.{Setup, State}
 use Rattle.overlap_law.specs.Runs.{Setting, Between, first_store, with_most, setup_for, first_state, state_at, last_state}
-use Rattle.overlap_law.specs.Kept.{beats_of_all}
 use Rattle.overlap_law.specs.Ends.{MakesHalt, IsAtHalt}
 use Rattle.overlap_law.specs.Laws.{HasDisciplinedList, IsInOrder, Finishing, LeavesTheSame, NoHazard, DisciplinedRunsHalt, SomeUnitSteps, RunsEnd, AtHalt, SameSteps, FewCycles}
 use Rattle.overlap_law.proofs.Moments.{moments_keep, kept_of, sound_at}

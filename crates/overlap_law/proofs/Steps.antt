@@ -14,7 +14,7 @@ use Rattle.venice_isa.specs.declared.issue.Issue.{Issue}
 use Rattle.venice_isa.specs.declared.issue.Issue.TheVariants.{Vector, Read, Write, RWait, WWait, VWait, TWait}
 use Rattle.venice_isa.specs.declared.host.Deed.{Deed}
 use Rattle.venice_isa.specs.declared.host.Deed.TheVariants.{Halts, Moves, Passes}
-use Rattle.venice_isa.specs.Beat.{not_begun, lane_group_items, beats_of, after_beats, after_all_beats, sequential}
+use Rattle.venice_isa.specs.Beat.{not_begun, lane_group_items, beats_of, after_beats, after_all_beats, sequential, beats_of_all}
 use Rattle.venice_isa.specs.Footprint.{Conflicts}
 use Rattle.venice_isa.specs.Host.{start, deed, next, after_steps, passed_by, passed_in}
 use Rattle.venice_isa.specs.Tests.{has_counts, are_in_conflict}
@@ -29,7 +29,7 @@ use Rattle.venice_machine.specs.declared.stop.End.TheVariants.{Halted, Stopped}
 use Rattle.venice_machine.specs.State.{Setup, State, IssuedWork, Jobs, issued_course, unfinished_count, place_of}
 use Rattle.venice_machine.specs.Step.{is_hazard, with_step, with_host_on, with_work, stopped_by, at_halt, after_beat}
 use Rattle.venice_machine.proofs.Runs.{Cases, IsGood, both_true}
-use Rattle.overlap_law.specs.Kept.{IsReadyOn, ArePassable, IsEarlier, GoesOnFor, count_works, beats_of_all, IsKeptAfter}
+use Rattle.overlap_law.specs.Kept.{IsReadyOn, ArePassable, IsEarlier, GoesOnFor, count_works, IsKeptAfter}
 use Rattle.overlap_law.proofs.Exchange.{IssuedJob}
 use Rattle.overlap_law.proofs.Finishing.{AreReady, finishes_alike}
 use Rattle.overlap_law.proofs.Jobs.{pairs_beaten, pairs_push, ready_beaten, size_beaten, chosen_unhindered, fewer_left, chosen_within, finished_pushed, sequential_pushed, begun}

@@ -10,6 +10,7 @@ use Rattle.venice_isa.specs.Flight.{IsDisciplined}
 use Rattle.venice_isa.specs.Host.{start, deed, passed_in}
 use Rattle.venice_isa.specs.Tests.{has_counts, is_in_range}
 use Rattle.venice_isa.proofs.TestsRight.{in_range_decided}
+use Rattle.venice_isa.specs.Beat.{beats_of_all}
 use Rattle.venice_machine.specs.declared.stop.Stop.{Stop}
 use Rattle.venice_machine.specs.declared.stop.End.{End}
 use Rattle.venice_machine.specs.declared.stop.End.TheVariants.{Halted, Stopped}
@@ -17,7 +18,6 @@ use Rattle.venice_machine.specs.State.{Setup, State, place_of}
 use Rattle.venice_machine.specs.Step.{with_step, with_host_on, with_work, after_beat}
 use Rattle.venice_machine.specs.Run.{all_units, run}
 use Rattle.venice_machine.proofs.Runs.{either, Cases}
-use Rattle.overlap_law.specs.Kept.{beats_of_all}
 use Rattle.overlap_law.specs.Laws.{IsInOrder}
 use Rattle.overlap_law.proofs.Jobs.{size_beaten}
 use Rattle.overlap_law.proofs.Steps.{IsSound, step_sound, steps_at_end, beats_appended, not_halted}

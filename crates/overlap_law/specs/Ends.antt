@@ -3,12 +3,11 @@ use Rattle.std.specs.Prelude.{◌≡◌, ℕ, ◌+◌, ◌<◌, ◌≤◌, List,
 use Rattle.ven_base.specs.Store.{Store}
 use Rattle.venice_isa.specs.declared.instr.Instr.{Instr}
 use Rattle.venice_isa.specs.declared.issue.Issue.{Issue}
-use Rattle.venice_isa.specs.Beat.{sequential}
+use Rattle.venice_isa.specs.Beat.{sequential, beats_of_all}
 use Rattle.venice_isa.specs.Host.{issue_list}
 use Rattle.venice_machine.specs.State.{Setup, State}
 use Rattle.venice_machine.specs.declared.stop.End.TheVariants.{Halted}
 use Rattle.overlap_law.specs.Runs.{Setting, first_store, last_state}
-use Rattle.overlap_law.specs.Kept.{beats_of_all}
 
 -- the host makes HALT with this step and no earlier one, and passes this list before
 pub record MakesHalt (instrs : List Instr) (host_steps : ℕ) (list : List Issue) : Type 0 where

@@ -12,12 +12,13 @@ use Rattle.venice_isa.specs.Footprint.{HasFootprint}
 use Rattle.venice_isa.specs.Host.{issue_list}
 use Rattle.venice_isa.specs.Tests.{has_counts}
 use Rattle.venice_isa.specs.Units.{Unit}
+use Rattle.venice_isa.specs.Beat.{beats_of_all}
 use Rattle.venice_machine.specs.declared.stop.Stop.TheVariants.{Hazard}
 use Rattle.venice_machine.specs.declared.stop.End.{End}
 use Rattle.venice_machine.specs.declared.stop.End.TheVariants.{Halted, Stopped}
 use Rattle.venice_machine.specs.Step.{Mover, can_step}
 use Rattle.overlap_law.specs.Runs.{Setting, Moment, with_most, setup_for, first_store, state_at, HasHalted, last_state}
-use Rattle.overlap_law.specs.Kept.{IsKept, beats_of_all}
+use Rattle.overlap_law.specs.Kept.{IsKept}
 use Rattle.overlap_law.specs.Ends.{IsAtHalt, GoesThrough}
 use Rattle.overlap_law.specs.Flights.{IsEnded}
 

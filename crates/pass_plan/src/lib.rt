@@ -27,12 +27,12 @@ mod turn;
 
 pub use laws::{need_laws, tile_laws, value_laws};
 pub use leaf::Leaf;
-pub use needs::{bound, label, need};
+pub use needs::{bound, label, need, widest};
 pub use node::NumberedNode;
 pub use number::numbered;
 pub use pass::{Pass, PassKind};
 pub use split::{ArrayPlace, Split};
 pub use subtree::{Subtree, arity, operand};
-pub use tiling::{piece, tile, tiles};
+pub use tiling::{piece, tile, tiles, tiles_per_row};
 pub use tree::{Tree, TreeOp};
 pub use turn::Turn;

@@ -100,7 +100,7 @@ fn widest_of_leaves(leaves: &[Leaf]) -> u32
 
 #[tactic(auto, using(crate::proofs::Sums::widest_few))]
 /// The greatest size in bytes of an element of the pass: 1, 2 or 4.
-fn widest(pass: &Pass) -> u32
+pub fn widest(pass: &Pass) -> u32
     ensures value { result ≡ widest_in (pass_of pass.now) }
     ensures few { result ≤ 4 }
 {

@@ -2,11 +2,12 @@
 ghost use Rattle.std.specs.Prelude.{◌≡◌, ◌≤◌, ◌<◌};
 ghost use Rattle.pass_plan.specs.Need.{pass_need, IsSmall};
 ghost use Rattle.pass_plan.specs.Tile.{tile_of, tiles_of, piece_of, IsTileOf};
+ghost use Rattle.pass_plan.specs.Buffers as plan;
 ghost use Rattle.pass_plan.specs.Shown.{pass_of};
 
-use crate::Pass;
 use crate::needs::need_of_pass;
 use crate::parts::{Piece, Tile};
+use crate::{Pass, PassKind};
 
 /// The tile of a pass in `spad` bytes of scratchpad: whole rows where one fits, else a part of one.
 pub fn tile(pass: &Pass, spad: u32) -> Tile
@@ -50,5 +51,16 @@ pub fn piece(pass: &Pass, tile: Tile, t: u32) -> Piece
         c0,
         h: tile.h.min(pass.domain.rows - r0),
         w: tile.w.min(pass.domain.cols - c0),
+    }
+}
+
+/// How many tiles a row of results takes: in a reduction those side by side, else one.
+pub fn tiles_per_row(pass: &Pass, tile: Tile) -> u32
+    requires { 1 ≤ tile.w }
+    ensures { result ≡ plan.tiles_per_row (pass_of pass.now) tile }
+{
+    match pass.kind {
+        PassKind::Map => 1,
+        PassKind::Reduce(_) => pass.domain.cols.div_ceil(tile.w),
     }
 }

@@ -1,9 +1,9 @@
 -- What the code needs to know of a tile's numbers and of the steps of an order.
-use Rattle.std.proofs.Common.{◌≡◌, ℕ, zero, suc, ◌+◌, ◌*◌, ◌/◌, ◌^◌, ◌<◌, ◌≤◌, append_assoc, append-nil, inl, inr, ap, sym, ◌∙◌, subst, refl, arith, lit<, List, [], ◌∷◌, ◌++◌, length, map, Bool, true, false, All}
+use Rattle.std.proofs.Common.{◌≡◌, ℕ, zero, suc, ◌+◌, ◌*◌, ◌^◌, ◌<◌, ◌≤◌, append_assoc, append-nil, inl, inr, ap, sym, ◌∙◌, subst, refl, arith, lit<, List, [], ◌∷◌, ◌++◌, length, map, Bool, true, false, All}
 use Rattle.std.specs.Prelude.{Some, if◌then◌else◌}
 use Rattle.std.proofs.lemmas.List.{map-append}
 use Rattle.std.proofs.Math.Nat.{mul-le-mul_left, mul-le-mul_right}
-use Rattle.std.proofs.lemmas.Nat.{div-mul-add, mul-le}
+use Rattle.std.proofs.lemmas.Nat.{mul-le}
 use Rattle.std.proofs.lemmas.Bool.{cases_eq, false≢true}
 use Rattle.ven_base.specs.declared.elem.Elem.{Elem}
 use Rattle.ven_base.specs.Elem.{size_of}
@@ -13,7 +13,7 @@ use Rattle.pass_plan.specs.declared.pass.PassKind.{PassKind}
 use Rattle.pass_plan.specs.declared.pass.PassKind.TheVariants.{Map, Reduce}
 use Rattle.pass_plan.specs.Tree.{AtLeaf, Literal, One, Two, Cast, Move, Select, is_computed, op_of, elem_of, operands_of, leaves_of}
 use Rattle.pass_plan.specs.Pass.{Pass}
-use Rattle.pass_plan.specs.Need.{buffers_of, widest_in, pass_need, need_of, IsSmall}
+use Rattle.pass_plan.specs.Need.{buffers_of, widest_in, IsSmall}
 use Rattle.pass_plan.specs.Tile.{across, tile_of}
 use Rattle.pass_plan.specs.Buffers.{is_map, buffer_bytes, tiles_per_row}
 use Rattle.pass_plan.proofs.Tilings.{buffers_inside, need_some, size_some, some_ceil}
@@ -47,24 +47,12 @@ is_small pass somewhere =
     let few = sound.few_nodes in
     record { few_leaves = omega arith; few_nodes = few }
 
-pub need_of_one : (pass : Pass) → need_of (pass ∷ []) ≡ pass_need pass
-need_of_one pass = omega arith
-
 some_buffers : (pass : Pass) → 1 ≤ buffers_of pass
 some_buffers pass = go (buffers_of pass) (need_some pass)
   where
     go : (n : ℕ) → 1 ≤ n * widest_in pass → 1 ≤ n
     go zero some = absurd (omega arith)
     go (suc n) some = omega arith
-
-pub widest_by : (pass : Pass) → pass_need pass / buffers_of pass ≡ widest_in pass
-widest_by pass =
-    let n = buffers_of pass in
-    let turned : n * widest_in pass ≡ widest_in pass * n + 0 = omega arith in
-    ap (λ x. x / n) turned ∙ div-mul-add (widest_in pass) n 0 (some_buffers pass)
-
-pub widest_code : (pass : Pass) (need buffers : ℕ) → need ≡ need_of (pass ∷ []) → buffers ≡ buffers_of pass → need / buffers ≡ widest_in pass
-widest_code pass need buffers is counts = ap (λ x. x / buffers) (is ∙ need_of_one pass) ∙ ap (λ n. pass_need pass / n) counts ∙ widest_by pass
 
 -- ---- a tile
 

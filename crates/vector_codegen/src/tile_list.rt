@@ -2,7 +2,6 @@
 ghost use Rattle.std.specs.Prelude.{◌≡◌, ℕ, ◌<◌, ◌≤◌, ◌*◌, ◌^◌, ◌++◌, false, not, map, length, IfOk, OnOk, All};
 ghost use Rattle.ven_base.specs.Elem.{size_of};
 ghost use Rattle.pass_plan.specs.Label.{label_of};
-ghost use Rattle.pass_plan.specs.Need.{result_buffers, widest_in, IsSmall};
 ghost use Rattle.pass_plan.specs.Buffers as plan;
 ghost use Rattle.pass_plan.specs.Shown.{tree_of, pass_of};
 ghost use Rattle.buffer_lifetimes.specs.Step.{step_of, steps_of};
@@ -18,7 +17,7 @@ use crate::vector_kind::move_kind;
 use buffer_lifetimes::{Assigned, EvalStep};
 use dma_segments::Fill;
 use pass_plan::parts::Tile;
-use pass_plan::{Pass, PassKind, need, piece};
+use pass_plan::{Pass, PassKind, piece, tiles_per_row, widest};
 use std::alloc::{AllocError, Global};
 use venice_isa::VecWork;
 
@@ -99,48 +98,15 @@ fn works_in(
 
 // ---- the tile of a pass
 
-/// How many tiles a row of results takes: those side by side in a reduction.
-fn tiles_per_row(pass: &Pass, tile: Tile) -> u32
-    requires { 1 ≤ tile.w }
-    ensures { result ≡ plan.tiles_per_row (pass_of pass.now) tile }
-{
-    match pass.kind {
-        PassKind::Map => 1,
-        PassKind::Reduce(_) => pass.domain.cols.div_ceil(tile.w),
-    }
-}
-
-/// How many buffers hold the results of a pass.
-fn result_buffers(kind: PassKind) -> u64
-    ensures { result ≡ result_buffers kind }
-{
-    match kind {
-        PassKind::Map => 2,
-        PassKind::Reduce(_) => 3,
-    }
-}
-
-/// The greatest size in bytes of an element of the pass, whose tree holds `slots` results at once.
-fn widest(pass: &Pass, slots: u32) -> u32
-    requires small { IsSmall (pass_of pass.now) }
-    requires slots { slots ≡ label_of (tree_of pass.now.tree) }
-    ensures { result ≡ widest_in (pass_of pass.now) }
-{
-    let leaves = 2 * pass.leaves.len() as u64;
-    let buffers = leaves + u64::from(slots) + result_buffers(pass.kind);
-    (need(std::slice::from_ref(pass)) / buffers) as u32
-}
-
 /// The elements of tile `t` in its buffers.
-fn tile_shape(pass: &Pass, slots: u32, tile: Tile, t: u32) -> Shape
+fn tile_shape(pass: &Pass, tile: Tile, t: u32) -> Shape
     requires sound { IsSoundSomewhere (pass_of pass.now) }
     requires number { IsTileNumber (pass_of pass.now) tile t }
-    requires slots { slots ≡ label_of (tree_of pass.now.tree) }
     ensures { result ≡ spec.tile_shape (pass_of pass.now) tile t }
 {
     let piece = piece(pass, tile, t);
     Shape {
-        room: tile.h * tile.w * widest(pass, slots),
+        room: tile.h * tile.w * widest(pass),
         rows: piece.h,
         cols: piece.w,
     }
@@ -189,7 +155,7 @@ pub fn tile_ops(
     ensures keep { IfOk result (λ works. All (KeepsToTile (pass_of pass.now) tile t) works.items) }
     ensures few { IfOk result (λ works. AreFew (pass_of pass.now) tile t works.items) }
 {
-    let shape = tile_shape(pass, assigned.slots, tile, t);
+    let shape = tile_shape(pass, tile, t);
     let b = tile_buffers(pass, assigned.slots, tile, t);
     let first = t % tiles_per_row(pass, tile) == 0;
     works_in(

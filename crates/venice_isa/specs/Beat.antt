@@ -65,6 +65,11 @@ beats_of (Read work) lanes = transfer_beats work
 beats_of (Write work) lanes = transfer_beats work
 beats_of _ lanes = 0
 
+-- how many beats the works of a list have together
+abbrev pub beats_of_all : List Issue → (lanes : ℕ) → ℕ
+beats_of_all [] lanes = 0
+beats_of_all (issue ∷ issues) lanes = beats_of issue lanes + beats_of_all issues lanes
+
 -- ---- a beat of the lanes
 
 -- the cells that so many elements of row r get, from element j on
