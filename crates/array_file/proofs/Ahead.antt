@@ -3,9 +3,8 @@ use Rattle.std.proofs.Common.{◌≡◌, ◌≢◌, ℕ, ◌+◌, ◌<◌, ◌�
 use Rattle.std.proofs.lemmas.List.{append_cancel_left}
 use Rattle.ven_io.specs.declared.token.Token.{Token}
 use Rattle.ven_io.specs.declared.token.TokenFault.{TokenFault}
-use Rattle.ven_io.specs.Token.{NextIs}
+use Rattle.ven_io.specs.Token.{NextIs, bytes_of}
 use Rattle.ven_io.specs.Tokens.{IsTaken, TokensTo, Here, Passed, Taken, IsKept, IsBehind}
-use Rattle.ven_io.specs.Lexemes.{bytes_of}
 use Rattle.ven_io.proofs.Settled.{one_next_holds}
 use Rattle.array_file.specs.declared.word.Word.{Word}
 use Rattle.array_file.specs.Faults.{seen, BeginsWith}

@@ -5,7 +5,7 @@ use Rattle.std.proofs.lemmas.List.{append-nil}
 use Rattle.ven_io.specs.declared.token.Token.{Token}
 use Rattle.ven_io.specs.declared.token.TokenFault.{TokenFault}
 use Rattle.ven_io.specs.declared.token.TokenKind.TheVariants as kinds
-use Rattle.ven_io.specs.Lexemes.{bytes_of}
+use Rattle.ven_io.specs.Token.{bytes_of}
 use Rattle.ven_io.specs.Reader.{run_from}
 use Rattle.ven_io.specs.Tokens.{IsTaken, TokensTo, Here, Taken, IsBehind, place_of}
 use Rattle.ven_io.proofs.Readers.{run_on}

@@ -6,7 +6,7 @@ use Rattle.ven_io.specs.declared.token.Token.{Token}
 use Rattle.ven_io.specs.declared.token.TokenFault.{TokenFault}
 use Rattle.ven_io.specs.declared.token.TokenKind.{TokenKind}
 use Rattle.ven_io.specs.declared.token.TokenKind.TheVariants as kinds
-use Rattle.ven_io.specs.Lexemes.{bytes_of}
+use Rattle.ven_io.specs.Token.{bytes_of}
 use Rattle.ven_io.specs.Reader.{run_from}
 use Rattle.ven_io.specs.Tokens.{IsBehind, place_of}
 use Rattle.ven_io.proofs.Readers.{run_on}

@@ -3,7 +3,7 @@ use Rattle.std.specs.Prelude.{◌≡◌, ◌≢◌, ℕ, ℤ, List, [], ◌∷�
 use Rattle.ven_io.specs.declared.token.Token.{Token}
 use Rattle.ven_io.specs.declared.token.TokenFault.{TokenFault}
 use Rattle.ven_io.specs.declared.token.TokenKind.TheVariants.{End}
-use Rattle.ven_io.specs.Lexemes.{bytes_of}
+use Rattle.ven_io.specs.Token.{bytes_of}
 use Rattle.ven_io.specs.Reader.{Begins}
 use Rattle.ven_io.specs.Tokens.{TokensTo, IsBehind, place_of}
 use Rattle.ven_base.specs.Elem.{IsElement}

@@ -5,9 +5,8 @@ use Rattle.ven_io.specs.declared.token.TokenFault.{TokenFault}
 use Rattle.ven_io.specs.declared.token.TokenFault.TheVariants as token_faults
 use Rattle.ven_io.specs.declared.token.TokenKind.TheVariants as token_kinds
 use Rattle.ven_io.specs.declared.token.Token.{Token as TextToken}
-use Rattle.ven_io.specs.Lexemes.{bytes_of}
 use Rattle.ven_io.specs.Tokens.{Here}
-use Rattle.ven_io.specs.Token.{IsSpelling}
+use Rattle.ven_io.specs.Token.{IsSpelling, bytes_of}
 use Rattle.ven_io.proofs.Reached.{tokens_after}
 use Rattle.array_syntax.specs.declared.fault.ParseFault.{ParseFault}
 use Rattle.array_syntax.specs.declared.fault.ParseFault.TheVariants as answers

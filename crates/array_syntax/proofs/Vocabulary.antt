@@ -40,10 +40,9 @@ use Rattle.ven_io.specs.declared.token.TokenFault.TheVariants as token_faults
 use Rattle.ven_io.specs.declared.token.TokenKind.{TokenKind}
 use Rattle.ven_io.specs.declared.token.TokenKind.TheVariants as token_kinds
 use Rattle.ven_io.specs.declared.token.Token.{Token as TextToken}
-use Rattle.ven_io.specs.Lexemes.{bytes_of}
 use Rattle.ven_io.specs.Number.{value_of, number_limit}
 use Rattle.ven_io.specs.Tokens.{Language, IsTaken, TokensTo, Here, Passed, Taken, IsKept, IsBehind, place_of}
-use Rattle.ven_io.specs.Token.{NextIs, IsSpelling, StandsAt, signs}
+use Rattle.ven_io.specs.Token.{NextIs, IsSpelling, StandsAt, signs, bytes_of}
 use Rattle.ven_io.proofs.Reached.{tokens_on, meets, one_text, Meets, GoesOn, Same, Before, After}
 use Rattle.array_syntax.proofs.Splitting.{Splits, split_at, split_behind}
 use Rattle.std.specs.Prelude.{if◌then◌else◌, map, Contains, IsTrue, Result, Ok, Err, option_map, ◌||◌}

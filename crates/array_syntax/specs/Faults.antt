@@ -4,7 +4,7 @@ use Rattle.ven_io.specs.declared.token.TokenFault.{TokenFault}
 use Rattle.ven_io.specs.declared.token.TokenFault.TheVariants as token_faults
 use Rattle.ven_io.specs.declared.token.TokenKind.TheVariants as token_kinds
 use Rattle.ven_io.specs.declared.token.Token.{Token as TextToken}
-use Rattle.ven_io.specs.Lexemes.{bytes_of}
+use Rattle.ven_io.specs.Token.{bytes_of}
 use Rattle.ven_io.specs.Number.{value_of, number_limit}
 use Rattle.ven_io.specs.Reader.{Begins}
 use Rattle.ven_io.specs.Tokens.{Language, IsBehind, place_of}

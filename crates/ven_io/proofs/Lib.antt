@@ -1,6 +1,5 @@
 pub mod Digits
 pub mod FilesLemmas
-pub mod Lexed
 pub mod MemLemmas
 pub mod PieceLemmas
 pub mod Places

@@ -4,8 +4,7 @@ use Rattle.ven_io.specs.declared.token.TokenKind.TheVariants.{End}
 use Rattle.ven_io.specs.declared.token.Token.{Token}
 use Rattle.ven_io.specs.declared.token.TokenFault.{TokenFault}
 use Rattle.ven_io.specs.declared.token.TokenFault.TheVariants.{NotAscii, Unexpected}
-use Rattle.ven_io.specs.Token.{NextIs}
-use Rattle.ven_io.specs.Lexemes.{bytes_of}
+use Rattle.ven_io.specs.Token.{NextIs, bytes_of}
 use Rattle.ven_io.specs.Tokens.{Language, IsTaken, TokensTo, Here, Passed, Taken, IsKept, IsBehind, place_of}
 use Rattle.ven_io.proofs.Settled.{one_next_holds}
 

@@ -1,7 +1,6 @@
 pub mod Faults
 pub mod Files
 pub mod Host
-pub mod Lexemes
 pub mod MemFiles
 pub mod MemSink
 pub mod Number

@@ -8,6 +8,10 @@ use Rattle.ven_io.specs.declared.token.Token.{Token}
 use Rattle.ven_io.specs.declared.token.TokenFault.{TokenFault}
 use Rattle.ven_io.specs.declared.token.TokenFault.TheVariants.{NotAscii, Unexpected}
 
+-- a token's bytes
+abbrev pub bytes_of : List ℕ → Token → List ℕ
+bytes_of text token = slice_range text token.start token.end
+
 -- a space, a tab or a carriage return
 abbrev pub is_blank : ℕ → Bool
 is_blank b = (b == 32) || (b == 9) || (b == 13)

@@ -5,8 +5,7 @@ use Rattle.ven_io.specs.declared.token.TokenKind.TheVariants.{End}
 use Rattle.ven_io.specs.declared.token.Token.{Token}
 use Rattle.ven_io.specs.declared.token.TokenFault.{TokenFault}
 use Rattle.ven_io.specs.declared.token.TokenFault.TheVariants.{NotAscii, Unexpected}
-use Rattle.ven_io.specs.Token.{NextIs}
-use Rattle.ven_io.specs.Lexemes.{bytes_of}
+use Rattle.ven_io.specs.Token.{NextIs, bytes_of}
 
 -- how a language takes tokens: the kinds that it passes over, and what a token with its bytes is in it, if it is
 -- anything

@@ -1,6 +1,5 @@
-//! What the definitions of tokens, numbers and lexemes settle, whatever the code does.
+//! What the definitions of tokens and numbers settle, whatever the code does.
 
-ghost use Rattle.ven_io.specs.Lexemes.{HasOneLexing, LexesByTokens, LexesNothingAtFaults};
 ghost use Rattle.ven_io.specs.Number.{HasOneNumber, ReadsTokens};
 ghost use Rattle.ven_io.specs.Token.{HasOneNext};
 
@@ -13,11 +12,4 @@ pub fn one_next()
 pub fn one_number()
     ensures one { HasOneNumber }
     ensures tokens { ReadsTokens }
-{}
-
-/// A text has at most one list of lexemes, token by token from its start, and none where a fault comes.
-pub fn one_lexing()
-    ensures one { HasOneLexing }
-    ensures by_tokens { LexesByTokens }
-    ensures at_faults { LexesNothingAtFaults }
 {}

@@ -28,7 +28,7 @@
 //! **Texts.** `next` gives the first token at or after a place, past blanks and comments, or why there is none (`next`);
 //! `after`, `in_text`, `some` and `end` say where it lies and that a reader gets on. `number` gives the value of a
 //! number's bytes, or the fault. Both take the text as bytes, and allocate nothing. Laws: `one_next`, `one_number` (one
-//! value or one fault; a number token is at fault for its size alone), `one_lexing` (one list of lexemes, token by token).
+//! value or one fault; a number token is at fault for its size alone).
 #![tactic(auto)]
 
 mod files;
@@ -48,7 +48,7 @@ mod token;
 pub use files::{Files, LoadFault};
 pub use host_files::HostFiles;
 pub use host_sink::HostSink;
-pub use laws::{one_lexing, one_next, one_number};
+pub use laws::{one_next, one_number};
 pub use lexing::next;
 pub use mem_files::MemFiles;
 pub use mem_sink::MemSink;

@@ -91,5 +91,4 @@ fn tokens_in_their_places(rt: HostRuntime) {
 fn laws_are_called() {
     one_next();
     one_number();
-    one_lexing();
 }

@@ -3,8 +3,7 @@ use Rattle.std.proofs.Common.{◌≡◌, ℕ, ◌<◌, List, [], ◌∷◌, ◌+
 use Rattle.ven_base.specs.First.{IsFirst}
 use Rattle.ven_io.specs.declared.token.Token.{Token}
 use Rattle.ven_io.specs.declared.token.TokenFault.{TokenFault}
-use Rattle.ven_io.specs.Lexemes.{bytes_of}
-use Rattle.ven_io.specs.Token.{NextIs}
+use Rattle.ven_io.specs.Token.{NextIs, bytes_of}
 use Rattle.ven_io.specs.Tokens.{place_of}
 use Rattle.ven_io.proofs.Reached.{one_text, Meets, Same, Before, After}
 use Rattle.venice_asm.specs.declared.word.Word.{Word}

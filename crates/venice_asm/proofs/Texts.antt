@@ -7,9 +7,8 @@ use Rattle.ven_io.specs.declared.token.Token.{Token}
 use Rattle.ven_io.specs.declared.token.TokenFault.{TokenFault}
 use Rattle.ven_io.specs.declared.token.TokenFault.TheVariants.{NotAscii, Unexpected as NoToken_there}
 use Rattle.ven_io.specs.declared.token.TokenKind.TheVariants.{End}
-use Rattle.ven_io.specs.Lexemes.{bytes_of}
 use Rattle.ven_io.specs.Reader.{run_from}
-use Rattle.ven_io.specs.Token.{NextIs, IsEnd, StandsAt, IsSpelling}
+use Rattle.ven_io.specs.Token.{NextIs, IsEnd, StandsAt, IsSpelling, bytes_of}
 use Rattle.ven_io.specs.Tokens.{IsBehind, TokensTo, place_of}
 use Rattle.ven_io.proofs.Readers.{run_on}
 use Rattle.ven_io.proofs.Reached.{one_text, Meets, Same, Before, After}

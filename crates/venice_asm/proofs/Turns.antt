@@ -33,8 +33,7 @@ use Rattle.venice_asm.proofs.Sentences.{Arrives, run_right}
 use Rattle.venice_asm.proofs.Refusing.{no_pending, IsAfterName, settled_name, full_name}
 use Rattle.venice_asm.proofs.Turning.{clean_at}
 use Rattle.ven_io.specs.declared.token.TokenKind.TheVariants as kinds
-use Rattle.ven_io.specs.Token.{NextIs}
-use Rattle.ven_io.specs.Lexemes.{bytes_of}
+use Rattle.ven_io.specs.Token.{NextIs, bytes_of}
 use Rattle.ven_io.specs.Tokens.{IsTaken, Taken, Here, IsKept as IsKeptToken}
 use Rattle.ven_io.proofs.Reached.{tokens_on}
 use Rattle.venice_asm.specs.Words.{word_of}

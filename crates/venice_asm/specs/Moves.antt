@@ -29,7 +29,7 @@ use Rattle.venice_asm.specs.Reading.{instr_named, heads_at, kinds_left, HasBegun
 use Rattle.venice_asm.specs.Spelling.{head_word, keyword_among}
 use Rattle.venice_asm.specs.Words.{word_of}
 use Rattle.ven_io.specs.declared.token.Token.{Token}
-use Rattle.ven_io.specs.Lexemes.{bytes_of}
+use Rattle.ven_io.specs.Token.{bytes_of}
 
 -- ---- what stays
 

@@ -4,8 +4,7 @@ ghost use Rattle.std.specs.Prelude.{◌≡◌, ◌<◌, ◌≤◌, ◌^◌, List
 ghost use Rattle.std.specs.List.{list_all};
 ghost use Rattle.image_loader.specs.Table.{instr_limit};
 ghost use Rattle.ven_io.specs.Tokens.{place_of};
-ghost use Rattle.ven_io.specs.Lexemes.{bytes_of};
-ghost use Rattle.ven_io.specs.Token.{IsSpelling};
+ghost use Rattle.ven_io.specs.Token.{IsSpelling, bytes_of};
 ghost use Rattle.venice_asm.specs.Faults.{IsAnswered};
 ghost use Rattle.venice_asm.specs.Reading.{kinds_left, instr_named, heads_at, HasBegun};
 ghost use Rattle.venice_asm.specs.Lines.{head_kinds, is_instr, is_optional};

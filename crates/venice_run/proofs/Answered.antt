@@ -11,7 +11,7 @@ use Rattle.ven_io.specs.declared.token.Token.{Token as TextToken}
 use Rattle.ven_io.specs.declared.token.TokenFault.{TokenFault}
 use Rattle.ven_io.specs.declared.token.TokenKind.{TokenKind}
 use Rattle.ven_io.specs.declared.token.TokenKind.TheVariants as kinds
-use Rattle.ven_io.specs.Lexemes.{bytes_of}
+use Rattle.ven_io.specs.Token.{bytes_of}
 use Rattle.ven_io.proofs.Reached.{GoesOn, Meets, Same, Before, After, one_text}
 use Rattle.array_file.specs.declared.fitting.FitFault.{FitFault}
 use Rattle.array_file.specs.declared.fitting.FitFault.TheVariants as answers
