@@ -80,8 +80,8 @@ fn fit_names(arrays: &Arrays, table: &[Entry]) -> Result<(), FitFault>
 }
 
 /// Whether each input of the table is there, with its type and its shape, and no other array (docs/FORMATS.md,
-/// "Fitting"). The inputs are looked at in the table's order, each for `Missing`, `TypeWrong` and `ShapeWrong`; then `Extra` is the
-/// first array that is no input of the table. Takes no memory.
+/// "Fitting"). The inputs are looked at in the table's order, each for `Missing`, `TypeWrong` and `ShapeWrong`; then
+/// `Extra` is the first array that is no input of the table. Takes no memory.
 pub fn fit(arrays: &Arrays, table: &[Entry]) -> Result<(), FitFault>
     ensures { MatchResult result (λ _. Fits arrays.now table.now) (λ fault. IsUnfit arrays.now table.now fault) }
 {

@@ -19,7 +19,8 @@ use std::mem;
 use ven_base::{Array, Arrays, ELEMENT_LIMIT, Name, Shape};
 use ven_io::{Token, TokenFault, TokenKind};
 
-/// What has been read, up to the place `from`: whole arrays, a phase of the next one, and its values so far.
+/// What has been read, up to the place `from`, in bytes from 0: whole arrays, a phase of the next one, and its values
+/// so far.
 #[derive(Debug, Drop)]
 pub struct Reading {
     pub arrays: Arrays,

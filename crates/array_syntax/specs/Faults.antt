@@ -42,8 +42,8 @@ nodes_before (earlier.Two a b) = nodes (tree_of a) + nodes (tree_of b)
 -- behind these tokens an expression of the level or a tighter one may begin, with this word; it is inside so many open
 -- brackets and prefix signs, and so many nodes of the program have their token before it
 pub data MayBegin : ℕ → ℕ → ℕ → List Token → Word → Type 0 where
-  AtValue : (word_at at sign : ℕ) (binding : Binding) (name : List ℕ) (before : List Token) (p : List Stmt) (word : Word)
-      → AreStatements before p
+  AtValue : (word_at at sign : ℕ) (binding : Binding) (name : List ℕ) (before : List Token) (p : List Stmt)
+      (word : Word) → AreStatements before p
       → MayBegin loosest 0 (nodes_in p) (before ++ token word_at (words.Bind binding) ∷ token at (words.Name name)
       ∷ token sign words.Assign ∷ []) word
   InBrackets : (l depth count at : ℕ) (before : List Token) (word : Word) → MayBegin l depth count before words.Open
@@ -52,8 +52,9 @@ pub data MayBegin : ℕ → ℕ → ℕ → List Token → Word → Type 0 where
       → MayBegin 0 (depth + 1) (count + 1) (before ++ token at words.Tilde ∷ []) word
   BehindNegate : (l depth count at : ℕ) (before : List Token) (word : Word) → ¬ IsNumber word
       → MayBegin l depth count before minus → MayBegin 0 (depth + 1) (count + 1) (before ++ token at minus ∷ []) word
-  BehindSign : (l depth count at : ℕ) (op : Operator) (before rest : List Token) (first : Token) (a : Expr) (word : Word)
-      → MayBegin l depth count before first.word → level op ≤ l → IsExpr (left_level op) (first ∷ rest) a
+  BehindSign : (l depth count at : ℕ) (op : Operator) (before rest : List Token) (first : Token) (a : Expr)
+      (word : Word) → MayBegin l depth count before first.word → level op ≤ l
+      → IsExpr (left_level op) (first ∷ rest) a
       → MayBegin (right_level op) depth (count + nodes (tree_of a) + 1) (before ++ (first ∷ rest
       ++ token at (words.Operator op) ∷ [])) word
   InCall : (l depth count at : ℕ) (callee : Callee) (operands : Earlier) (before begun : List Token) (word : Word)

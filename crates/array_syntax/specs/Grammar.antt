@@ -78,8 +78,9 @@ mutual
     Two : (l at : ℕ) (op : Operator) (left right : List Token) (a b : Expr) → level op ≤ l
         → IsExpr (left_level op) left a → IsExpr (right_level op) right b
         → IsExpr l (left ++ token at (words.Operator op) ∷ right) (expr at (kinds.Two (operation op) a b))
-    Call : (l at closing : ℕ) (callee : Callee) (before : Earlier) (begun last : List Token) (e : Expr) (kind : ExprKind)
-        → IsBegun at callee before begun → IsExpr loosest last e → call_of callee before e ≡ Some kind
+    Call : (l at closing : ℕ) (callee : Callee) (before : Earlier) (begun last : List Token) (e : Expr)
+        (kind : ExprKind) → IsBegun at callee before begun → IsExpr loosest last e
+        → call_of callee before e ≡ Some kind
         → IsExpr l (begun ++ (last ++ token closing words.Close ∷ [])) (expr at kind)
     Map : (l at opening comma closing : ℕ) (callee : Callee) (inner begun last : List Token) (e : Expr)
         (values : List Number) (value : Number) (kind : ExprKind)

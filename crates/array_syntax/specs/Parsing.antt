@@ -42,7 +42,8 @@ IsPending _ _ _ = ⊥
 abbrev pub IsClean : List ℕ → List Token → State → Type 0
 IsClean text tokens s =
     (us rest : List Token) (own : Token) (next : Result TextToken TokenFault) (cause : Cause)
-    → tokens ≡ us ++ own ∷ rest → IsBehind language text us next → seen text next ≡ Some own → Holds text us next cause → IsPending s rest cause
+    → tokens ≡ us ++ own ∷ rest → IsBehind language text us next → seen text next ≡ Some own
+    → Holds text us next cause → IsPending s rest cause
 
 -- the text is read up to a place, to a state with so many nodes
 pub record HasRead (text : List ℕ) (from : ℕ) (s : State) (count : ℕ) : Type 0 where

@@ -22,7 +22,7 @@ pub struct Number {
     pub value: i64,
 }
 
-/// A call whose operand is whole, with its numbers so far.
+/// A call whose operand is whole, with its numbers so far. `at` is the place of its word, in bytes from 0.
 #[derive(Drop)]
 pub struct MapCall {
     pub at: u32,

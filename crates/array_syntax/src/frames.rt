@@ -68,6 +68,7 @@ fn opens(frame: &Frame) -> bool
 }
 
 impl Frames {
+    /// No items. It takes no memory.
     pub fn new(alloc: Global) -> Frames
         ensures { result ≡ [] }
     {
@@ -100,6 +101,7 @@ impl Frames {
         Ok(())
     }
 
+    /// Opens an item, which is then the innermost. Err is want of memory.
     pub fn push(&mut self, frame: Frame) -> Result<(), AllocError>
         requires { depth_of self.old < 2 ^ 32 }
         ensures { OnOk result (self.new ≡ frame ∷ self.old) }
@@ -112,6 +114,7 @@ impl Frames {
         Ok(())
     }
 
+    /// Takes the innermost item away; `None` where nothing is open.
     pub fn pop(&mut self) -> Option<Frame>
         ensures { MatchOption result ((self.old ≡ []) × (self.new ≡ [])) (λ frame. self.old ≡ frame ∷ self.new) }
     {

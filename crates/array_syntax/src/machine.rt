@@ -16,7 +16,7 @@ use sqlite_items::Items;
 use std::alloc::{AllocError, Global};
 use ven_base::{Elem, Name, Op1};
 
-/// An input's name, its place and its element type.
+/// An input's name, the name's place in bytes from 0, and the element type.
 #[derive(Clone, Copy)]
 pub struct Heading {
     pub name: Name,
@@ -57,11 +57,17 @@ pub enum Phase {
 /// Why a token isn't taken.
 #[derive(Clone, Copy)]
 pub enum Refusal {
+    /// A node of height 65 ends before it.
     TooHigh,
+    /// No program goes on with it.
     Unexpected,
+    /// It is the 65th open bracket or prefix sign.
     TooManyOpen,
+    /// It begins the 257th statement.
     TooManyStatements,
+    /// It is that of the 4,097th node.
     TooManyNodes,
+    /// Out of memory.
     Memory,
 }
 

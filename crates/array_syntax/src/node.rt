@@ -52,6 +52,7 @@ impl Drop for Node {
 }
 
 impl Node {
+    /// A name, at this place in bytes from 0.
     #[tactic(auto, using(crate::proofs::Trees::tree_name))]
     pub fn name(at: u32, name: Name) -> Node
         ensures { result ≡ expr at (ExprKind.Name name) }
@@ -65,6 +66,7 @@ impl Node {
         }
     }
 
+    /// A number with its sign, at this place in bytes from 0.
     #[tactic(auto, using(crate::proofs::Trees::tree_literal))]
     pub fn literal(at: u32, value: i64) -> Node
         ensures { result ≡ expr at (ExprKind.Literal value) }
@@ -78,6 +80,8 @@ impl Node {
         }
     }
 
+    /// An operation on one array; the place is that of its sign or function, in bytes from 0. Err is want of memory,
+    /// as in each that follows.
     #[tactic(auto, using(crate::proofs::Trees::tree_one))]
     pub fn one(alloc: Global, at: u32, op: Op1, a: Node) -> Result<Node, AllocError>
         ensures { IfOk result (λ n. n ≡ expr at (ExprKind.One op a)) }
@@ -92,6 +96,7 @@ impl Node {
         })
     }
 
+    /// A cast; the place is that of its type.
     #[tactic(auto, using(crate::proofs::Trees::tree_cast))]
     pub fn cast(alloc: Global, at: u32, elem: Elem, a: Node) -> Result<Node, AllocError>
         ensures { IfOk result (λ n. n ≡ expr at (ExprKind.Cast elem a)) }
@@ -106,6 +111,7 @@ impl Node {
         })
     }
 
+    /// A transposition; the place is that of its function, as in each that follows.
     #[tactic(auto, using(crate::proofs::Trees::tree_transpose))]
     pub fn transpose(alloc: Global, at: u32, a: Node) -> Result<Node, AllocError>
         ensures { IfOk result (λ n. n ≡ expr at (ExprKind.Transpose a)) }
@@ -120,6 +126,7 @@ impl Node {
         })
     }
 
+    /// A reduction of each row.
     #[tactic(auto, using(crate::proofs::Trees::tree_row_fold))]
     pub fn row_fold(alloc: Global, at: u32, fold: Fold, a: Node) -> Result<Node, AllocError>
         ensures { IfOk result (λ n. n ≡ expr at (ExprKind.RowFold fold a)) }
@@ -134,6 +141,7 @@ impl Node {
         })
     }
 
+    /// A reduction of the whole array.
     #[tactic(auto, using(crate::proofs::Trees::tree_fold))]
     pub fn fold(alloc: Global, at: u32, fold: Fold, a: Node) -> Result<Node, AllocError>
         ensures { IfOk result (λ n. n ≡ expr at (ExprKind.Fold fold a)) }
@@ -148,6 +156,7 @@ impl Node {
         })
     }
 
+    /// An operation on two arrays; the place is that of its sign or function.
     #[tactic(auto, using(crate::proofs::Trees::tree_two))]
     pub fn two(alloc: Global, at: u32, op: Op2, a: Node, b: Node) -> Result<Node, AllocError>
         ensures { IfOk result (λ n. n ≡ expr at (ExprKind.Two op a b)) }
@@ -164,6 +173,7 @@ impl Node {
         })
     }
 
+    /// A choice: `a` where `c` isn't 0, else `b`.
     #[tactic(auto, using(crate::proofs::Trees::tree_select))]
     pub fn select(alloc: Global, at: u32, c: Node, a: Node, b: Node) -> Result<Node, AllocError>
         ensures { IfOk result (λ n. n ≡ expr at (ExprKind.Select c a b)) }
@@ -181,6 +191,8 @@ impl Node {
         })
     }
 
+    /// A shift by `dr` rows and `dc` columns; `fill` stands where that leaves the shape, and its place is `fill_at`, in
+    /// bytes from 0.
     #[tactic(auto, using(crate::proofs::Trees::tree_shift))]
     pub fn shift(
         alloc: Global,
@@ -210,6 +222,7 @@ impl Node {
         })
     }
 
+    /// A rotation by `dr` rows and `dc` columns.
     #[tactic(auto, using(crate::proofs::Trees::tree_rotate))]
     pub fn rotate(alloc: Global, at: u32, a: Node, dr: i64, dc: i64) -> Result<Node, AllocError>
         ensures { IfOk result (λ n. n ≡ expr at (ExprKind.Rotate a dr dc)) }
@@ -225,6 +238,7 @@ impl Node {
         })
     }
 
+    /// A stretch: each row `kr` times, each column `kc` times.
     #[tactic(auto, using(crate::proofs::Trees::tree_stretch))]
     pub fn stretch(alloc: Global, at: u32, a: Node, kr: i64, kc: i64) -> Result<Node, AllocError>
         ensures { IfOk result (λ n. n ≡ expr at (ExprKind.Stretch a kr kc)) }
@@ -271,6 +285,7 @@ impl Node {
         })
     }
 
+    /// The expression alone.
     pub fn into_expr(self) -> Expr
         ensures { result ≡ self }
     {

@@ -20,7 +20,7 @@ use sqlite_items::Items;
 use std::alloc::Global;
 use ven_io::{Token as TextToken, TokenFault, TokenKind};
 
-/// What has been read: up to the place `from`, with so many nodes.
+/// What has been read: up to the place `from`, in bytes from 0, with so many nodes.
 #[derive(Drop)]
 pub struct Parsing {
     pub phase: Phase,

@@ -45,6 +45,7 @@ fn elem_of(node: &Typed) -> Elem
     node.elem
 }
 
+/// Whether the node is a reduction, of each row or of the whole array.
 pub fn is_reduction(node: &Typed) -> bool
     ensures { result ≡ has_reduction (node_of node.now) }
 {

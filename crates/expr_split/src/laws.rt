@@ -6,8 +6,8 @@ pub fn meaning_law()
     ensures { KeepsMeaning }
 {}
 
-/// A program has one split. That of every checked program is sound, and its passes make one array after another behind the
-/// inputs.
+/// A program has one split. That of every checked program is sound, and its passes make one array after another behind
+/// the inputs.
 pub fn split_laws()
     ensures one { SplitsAreOne }
     ensures sound { SplitsAreSound }

@@ -20,7 +20,8 @@ use ven_base::{Elem, Mapping, Shape};
 /// The greatest height of a tree that is put in the place of a name.
 const HEIGHT_LIMIT: u32 = 64;
 
-/// How often each name occurs, and how often as the operand of a map; more than once is 2.
+/// How often each name occurs, and how often as the operand of a map; more than once is 2. Both lists go by the
+/// statements, from 0.
 #[derive(Drop)]
 pub struct Asks {
     pub uses: Vec<u8>,

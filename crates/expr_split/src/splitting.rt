@@ -19,7 +19,7 @@ use shape_check::{ArrayType, Checked, CheckedStmt, StmtKind};
 use std::alloc::{AllocError, Global};
 use ven_base::{Entry, Shape};
 
-/// Arrays at their places, and the end of the last one.
+/// Arrays at their places in memory, and the end of the last one, in bytes from 0.
 #[derive(Drop)]
 pub struct Placed {
     pub arrays: Vec<ArrayPlace>,

@@ -28,7 +28,8 @@ pub record IsReadTo (bytes : List ℕ) (place : ℕ) : Type 0 where
 
 pub record IsMagicRead (bytes : List ℕ) (version : Version) : Type 0 where
   pub version_is : version ≡ version_in bytes
-  pub spelled : magic version ≡ slice_index bytes 0 ∷ slice_index bytes 1 ∷ slice_index bytes 2 ∷ slice_index bytes 3 ∷ []
+  pub spelled : magic version
+      ≡ slice_index bytes 0 ∷ slice_index bytes 1 ∷ slice_index bytes 2 ∷ slice_index bytes 3 ∷ []
   pub read : IsReadTo bytes 4
 
 -- a number that is whole and lies in its range
@@ -39,11 +40,17 @@ pub record IsGoodNumber (bytes : List ℕ) (place least most n : ℕ) : Type 0 w
 
 abbrev pub IsBadNumber : List ℕ → (place least most : ℕ) → ImageFault → Type 0
 IsBadNumber bytes place least most (Truncated at) = (at ≡ length bytes) × (length bytes < place + 4)
-IsBadNumber bytes place least most (BadTable at) = (at ≡ place) × (place + 4 ≤ length bytes) × (¬ LiesIn least most (number_at bytes place))
+IsBadNumber bytes place least most (BadTable at) =
+    (at ≡ place) × (place + 4 ≤ length bytes) × (¬ LiesIn least most (number_at bytes place))
 IsBadNumber bytes place least most fault = ⊥
 
 abbrev pub numbers_of : HeaderFields → Header
-numbers_of fields = record { spad = fields.spad; memory = fields.memory; array_count = fields.array_count; instr_count = fields.instr_count }
+numbers_of fields = record {
+  spad = fields.spad;
+  memory = fields.memory;
+  array_count = fields.array_count;
+  instr_count = fields.instr_count;
+}
 
 pub record IsHeaderRead (bytes : List ℕ) (header : Header) : Type 0 where
   pub numbers : header ≡ header_in bytes
@@ -67,11 +74,14 @@ pub record IsEntryRead (bytes : List ℕ) (place memory : ℕ) (earlier : List R
 
 -- a part that has to stop the reading, whole or not
 abbrev pub IsStop : List ℕ → (place size : ℕ) → ImageFault → Type 0
-IsStop bytes place size fault = ((place + size ≤ length bytes) × (fault ≡ BadTable place)) ⊎ ((length bytes < place + size) × (fault ≡ Truncated (length bytes)))
+IsStop bytes place size fault =
+    ((place + size ≤ length bytes) × (fault ≡ BadTable place))
+    ⊎ ((length bytes < place + size) × (fault ≡ Truncated (length bytes)))
 
 -- each of these entries keeps its rules behind those before it
 abbrev pub AreRight : ℕ → List RawEntry → Type 0
-AreRight memory entries = (k : ℕ) → k < length entries → IsRight memory (take k entries) (slice_index_or entries k no_entry)
+AreRight memory entries =
+    (k : ℕ) → k < length entries → IsRight memory (take k entries) (slice_index_or entries k no_entry)
 
 -- so many entries are read, up to a place
 pub record AreEntriesRead (bytes : List ℕ) (arrays : List Entry) (end k : ℕ) : Type 0 where
@@ -98,14 +108,20 @@ pub record IsInstrRead (bytes : List ℕ) (place : ℕ) (version : Version) (cou
 
 abbrev pub IsInstrStop : List ℕ → ℕ → Version → ℕ → ImageFault → Type 0
 IsInstrStop bytes place version count (Truncated at) = (at ≡ length bytes) × (length bytes < place + 8)
-IsInstrStop bytes place version count (BadInstr at) = (at ≡ place) × (place + 8 ≤ length bytes) × ((instr : Instr) → IsInstr version instr → ¬ (encoded instr ≡ eight_at bytes place))
-IsInstrStop bytes place version count (BadTarget at) = (at ≡ place) × (place + 8 ≤ length bytes) × ((instr : Instr) × IsInstr version instr × (encoded instr ≡ eight_at bytes place) × (¬ HasTargetBelow count instr))
+IsInstrStop bytes place version count (BadInstr at) =
+    (at ≡ place) × (place + 8 ≤ length bytes)
+    × ((instr : Instr) → IsInstr version instr → ¬ (encoded instr ≡ eight_at bytes place))
+IsInstrStop bytes place version count (BadTarget at) =
+    (at ≡ place) × (place + 8 ≤ length bytes)
+    × ((instr : Instr) × IsInstr version instr × (encoded instr ≡ eight_at bytes place)
+    × (¬ HasTargetBelow count instr))
 IsInstrStop bytes place version count fault = ⊥
 
 -- these are the first instructions
 pub record AreRead (bytes : List ℕ) (instrs : List Instr) : Type 0 where
   pub spelled : (k : ℕ) → k < length instrs → Spells bytes k (slice_index_or instrs k Halt)
-  pub targets : (k : ℕ) → k < length instrs → HasTargetBelow (header_in bytes).instr_count (slice_index_or instrs k Halt)
+  pub targets : (k : ℕ) → k < length instrs
+      → HasTargetBelow (header_in bytes).instr_count (slice_index_or instrs k Halt)
 
 -- all of them
 pub record IsCodeRead (bytes : List ℕ) (instrs : List Instr) (end : ℕ) : Type 0 where

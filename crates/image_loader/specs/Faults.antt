@@ -50,9 +50,12 @@ Spells bytes k instr = IsInstr (version_in bytes) instr × (encoded instr ≡ in
 -- a slot that is whole is wrong, and this is its fault
 abbrev pub IsWrong : List ℕ → Slot → ImageFault → Type 0
 IsWrong bytes (MagicByte i) BadMagic = ¬ FitsMagic i (slice_index bytes i)
-IsWrong bytes (Field field) (BadTable at) = BreaksTable (header_in bytes) (entries_in bytes) field × (at ≡ field_place (entries_in bytes) field)
+IsWrong bytes (Field field) (BadTable at) =
+    BreaksTable (header_in bytes) (entries_in bytes) field × (at ≡ field_place (entries_in bytes) field)
 IsWrong bytes (Instruction k) (BadInstr at) = ((instr : Instr) → ¬ Spells bytes k instr) × (at ≡ instr_place bytes k)
-IsWrong bytes (Instruction k) (BadTarget at) = ((instr : Instr) × Spells bytes k instr × (¬ HasTargetBelow (header_in bytes).instr_count instr)) × (at ≡ instr_place bytes k)
+IsWrong bytes (Instruction k) (BadTarget at) =
+    ((instr : Instr) × Spells bytes k instr × (¬ HasTargetBelow (header_in bytes).instr_count instr))
+    × (at ≡ instr_place bytes k)
 IsWrong bytes slot fault = ⊥
 
 -- ---- all defects

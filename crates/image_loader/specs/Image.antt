@@ -66,7 +66,9 @@ abbrev pub header_bytes : Header → List ℕ
 header_bytes header = word header.spad ++ (word header.memory ++ (word header.array_count ++ word header.instr_count))
 
 abbrev pub entry_bytes : RawEntry → List ℕ
-entry_bytes entry = entry.name_length ∷ (entry.name ++ (entry.kind ∷ entry.elem ∷ (word entry.rows ++ (word entry.columns ++ word entry.place))))
+entry_bytes entry =
+    entry.name_length ∷ (entry.name ++ (entry.kind ∷ entry.elem
+    ∷ (word entry.rows ++ (word entry.columns ++ word entry.place))))
 
 abbrev pub table_bytes : List RawEntry → List ℕ
 table_bytes entries = flat_map entry_bytes entries
@@ -75,4 +77,6 @@ abbrev pub code_bytes : Listing → List ℕ
 code_bytes code = flat_map encoded code.instrs
 
 unfoldable pub spelling : Contents → List ℕ
-spelling image = magic image.code.version ++ (header_bytes (header_of image) ++ (table_bytes (raw_entries image.arrays) ++ code_bytes image.code))
+spelling image =
+    magic image.code.version
+    ++ (header_bytes (header_of image) ++ (table_bytes (raw_entries image.arrays) ++ code_bytes image.code))

@@ -9,6 +9,8 @@ use Rattle.image_loader.specs.Faults.{IsFirstFault, IsAnswer}
 pub record IsLoading (bytes : List ℕ) (result : Result Contents ImageFault) : Type 0 where
   pub found : IfOk result IsImage
   pub spelled : IfOk result (λ image. bytes ≡ spelling image)
-  pub only : (image : Contents) → IsImage image → bytes ≡ spelling image → MatchResult result (λ found. found ≡ image) (λ fault. fault ≡ Memory)
+  pub only : (image : Contents) → IsImage image → bytes ≡ spelling image
+      → MatchResult result (λ found. found ≡ image) (λ fault. fault ≡ Memory)
   pub fault : IfErr result (IsAnswer bytes)
-  pub exact : (fault : ImageFault) → IsFirstFault bytes fault → MatchResult result (λ found. ⊥) (λ answer. (answer ≡ Memory) ⊎ (answer ≡ fault))
+  pub exact : (fault : ImageFault) → IsFirstFault bytes fault
+      → MatchResult result (λ found. ⊥) (λ answer. (answer ≡ Memory) ⊎ (answer ≡ fault))

@@ -9,13 +9,15 @@ use Rattle.image_loader.specs.Table.{Header, RawEntry, entry_size, entry_place, 
 -- the number that four bytes spell
 abbrev pub number_at : List ℕ → ℕ → ℕ
 number_at bytes place =
-    from_le_bytes w32 (slice_index bytes place ∷ slice_index bytes (place + 1) ∷ slice_index bytes (place + 2) ∷ slice_index bytes (place + 3) ∷ [])
+    from_le_bytes w32 (slice_index bytes place ∷ slice_index bytes (place + 1) ∷ slice_index bytes (place + 2)
+    ∷ slice_index bytes (place + 3) ∷ [])
 
 -- eight bytes
 abbrev pub eight_at : List ℕ → ℕ → List ℕ
 eight_at bytes place =
-    slice_index bytes place ∷ slice_index bytes (place + 1) ∷ slice_index bytes (place + 2) ∷ slice_index bytes (place + 3)
-    ∷ slice_index bytes (place + 4) ∷ slice_index bytes (place + 5) ∷ slice_index bytes (place + 6) ∷ slice_index bytes (place + 7) ∷ []
+    slice_index bytes place ∷ slice_index bytes (place + 1) ∷ slice_index bytes (place + 2)
+    ∷ slice_index bytes (place + 3) ∷ slice_index bytes (place + 4) ∷ slice_index bytes (place + 5)
+    ∷ slice_index bytes (place + 6) ∷ slice_index bytes (place + 7) ∷ []
 
 abbrev pub version_in : List ℕ → Version
 version_in bytes = if slice_index bytes 3 == 50 then Two else One
@@ -44,7 +46,8 @@ entry_at bytes place =
 -- so many entries, one after another
 unfoldable pub entries_at : List ℕ → (count place : ℕ) → List RawEntry
 entries_at bytes zero place = []
-entries_at bytes (suc count) place = entry_at bytes place ∷ entries_at bytes count (place + entry_size (entry_at bytes place))
+entries_at bytes (suc count) place =
+    entry_at bytes place ∷ entries_at bytes count (place + entry_size (entry_at bytes place))
 
 abbrev pub entries_in : List ℕ → List RawEntry
 entries_in bytes = entries_at bytes (header_in bytes).array_count table_place

@@ -1,5 +1,6 @@
--- The table of an image: its fields with their places, and the rules that they keep. It is said of numbers as they stand in bytes,
--- whatever they are, so that a text that would give a wrong table has the same first fault as its bytes.
+-- The table of an image: its fields with their places, and the rules that they keep. It is said of numbers as they
+-- stand in bytes, whatever they are, so that a text that would give a wrong table has the same first fault as its
+-- bytes.
 use Rattle.std.specs.Prelude.{◌≡◌, ◌⊎◌, ℕ, zero, suc, Bool, ◌&&◌, nat_lt, IsTrue, ◌+◌, ◌*◌, ◌<◌, ◌≤◌, List, [], ◌∷◌, map, take, Contains, slice_get, slice_index_or}
 use Rattle.std.specs.List.{list_any}
 use Rattle.std.specs.Option.{IsSomeAnd}
@@ -35,7 +36,8 @@ pub record Header : Type 0 where
   pub array_count : ℕ
   pub instr_count : ℕ
 
--- an array's entry: its name and how long that is said to be, the numbers of its kind and its type, its shape and its place
+-- an array's entry: its name and how long that is said to be, the numbers of its kind and its type, its shape and its
+-- place
 pub record RawEntry : Type 0 where
   pub name_length : ℕ
   pub name : List ℕ
@@ -152,25 +154,29 @@ array_bytes entry = entry.rows * entry.columns * size_of (elem_of entry.elem)
 
 -- whether two arrays share a byte
 abbrev pub share_byte : RawEntry → RawEntry → Bool
-share_byte entry other = nat_lt other.place (entry.place + array_bytes entry) && nat_lt entry.place (other.place + array_bytes other)
+share_byte entry other =
+    nat_lt other.place (entry.place + array_bytes entry) && nat_lt entry.place (other.place + array_bytes other)
 
 abbrev pub names_of : List RawEntry → List (List ℕ)
 names_of entries = map (λ entry. entry.name) entries
 
--- a part of an entry breaks its rule, with so much memory and behind these entries; a name is looked at where its length is right,
--- a number of columns where there are rows
+-- a part of an entry breaks its rule, with so much memory and behind these entries; a name is looked at where its
+-- length is right, a number of columns where there are rows
 abbrev pub BreaksEntry : (memory : ℕ) (earlier : List RawEntry) (entry : RawEntry) → EntryPart → Type 0
 BreaksEntry memory earlier entry NameLength = ¬ LiesIn 1 31 entry.name_length
-BreaksEntry memory earlier entry NameBytes = LiesIn 1 31 entry.name_length × ((¬ IsName entry.name) ⊎ Contains (names_of earlier) entry.name)
+BreaksEntry memory earlier entry NameBytes =
+    LiesIn 1 31 entry.name_length × ((¬ IsName entry.name) ⊎ Contains (names_of earlier) entry.name)
 BreaksEntry memory earlier entry Kind = 1 < entry.kind
 BreaksEntry memory earlier entry ElementType = 5 < entry.elem
 BreaksEntry memory earlier entry Rows = entry.rows ≡ 0
 BreaksEntry memory earlier entry Columns = (entry.columns ≡ 0) ⊎ (element_limit < entry.rows * entry.columns)
-BreaksEntry memory earlier entry Place = (memory < entry.place + array_bytes entry) ⊎ IsTrue (list_any (share_byte entry) earlier)
+BreaksEntry memory earlier entry Place =
+    (memory < entry.place + array_bytes entry) ⊎ IsTrue (list_any (share_byte entry) earlier)
 
 abbrev pub BreaksTable : Header → List RawEntry → TableField → Type 0
 BreaksTable header entries (HeaderField part) = ¬ LiesIn (least_of part) (most_of part) (header_number header part)
-BreaksTable header entries (EntryField k part) = IsSomeAnd (slice_get entries k) (λ entry. BreaksEntry header.memory (take k entries) entry part)
+BreaksTable header entries (EntryField k part) =
+    IsSomeAnd (slice_get entries k) (λ entry. BreaksEntry header.memory (take k entries) entry part)
 
 -- a part is the first of an entry that breaks its rule
 pub record BreaksFirst (memory : ℕ) (earlier : List RawEntry) (entry : RawEntry) (part : EntryPart) : Type 0 where

@@ -1,7 +1,7 @@
 //! Why bytes are no image.
 
-/// Why bytes are no image: the first thing that is wrong, from left to right (docs/FORMATS.md, "Images"). `at` counts bytes
-/// from 0.
+/// Why bytes are no image: the first thing that is wrong, from left to right (docs/FORMATS.md, "Images"). `at` counts
+/// bytes from 0.
 #[derive(Clone, Copy, Debug, PartialEq, Eq)]
 pub enum ImageFault {
     /// The bytes end before the image does: `at` is their number.

@@ -4,9 +4,9 @@ use std::marker::Model;
 use ven_base::Entry;
 use venice_isa::Code;
 
-/// A program for the machine (docs/FORMATS.md, "Images"): how many bytes of scratchpad and of memory it wants, the arrays that
-/// stand in memory, and its code. The numbers keep the limits of an image; the arrays have different names, lie in memory and
-/// share no byte.
+/// A program for the machine (docs/FORMATS.md, "Images"): how many bytes of scratchpad and of memory it wants, the
+/// arrays that stand in memory, and its code. The numbers keep the limits of an image; the arrays have different names,
+/// lie in memory and share no byte.
 #[derive(Debug, Drop)]
 pub struct Image {
     pub spad: u32,
@@ -22,5 +22,10 @@ impl Model for Image {
 
     ghost view = { λ i. record { spad = i.spad; memory = i.memory; arrays = i.arrays.items; code = i.code } };
 
-    ghost invariant = { λ i. IsImage (record { spad = i.spad; memory = i.memory; arrays = i.arrays.items; code = i.code }) };
+    ghost invariant = { λ i. IsImage (record {
+      spad = i.spad;
+      memory = i.memory;
+      arrays = i.arrays.items;
+      code = i.code;
+    }) };
 }

@@ -36,8 +36,8 @@ struct Table {
     end: u32,
 }
 
-/// The image that the bytes spell: `Ok` exactly with it, and else the first fault from left to right, or `Memory` where memory
-/// ran out. The bytes are at most 67,108,864. One pass over them.
+/// The image that the bytes spell: `Ok` exactly with it, and else the first fault from left to right, or `Memory` where
+/// memory ran out. The bytes are at most 67,108,864. One pass over them.
 pub fn read_image(alloc: Global, bytes: &[u8]) -> Result<Image, ImageFault>
     requires { length bytes.now ≤ byte_limit }
     ensures { IsLoading bytes.now result }
@@ -193,7 +193,8 @@ fn entry_bytes(entry: &Entry) -> u32
 fn read_entry(bytes: &[u8], place: u32, memory: u32, earlier: &[Entry]) -> Result<Entry, ImageFault>
     requires few { length bytes.now ≤ byte_limit }
     requires at { IsAtEntry bytes.now place memory (raw_entries earlier.now) }
-    ensures { MatchResult result (λ entry. IsEntryRead bytes.now place memory (raw_entries earlier.now) (raw_entry entry)) (IsAnswer bytes.now) }
+    ensures { MatchResult result
+        (λ entry. IsEntryRead bytes.now place memory (raw_entries earlier.now) (raw_entry entry)) (IsAnswer bytes.now) }
 {
     let name_length = u32::from(byte_from(bytes, place));
     if !is_name_length(name_length) {
@@ -298,7 +299,8 @@ fn read_instrs(
     requires place { place ≡ code_place bytes.now }
     requires count { count ≡ (header_in bytes.now).instr_count }
     requires room { place + 8 * count < 2 ^ 32 }
-    ensures { MatchResult result (λ instrs. IsCodeRead bytes.now instrs.items (place + 8 * count)) (IsAnswer bytes.now) }
+    ensures { MatchResult result (λ instrs. IsCodeRead bytes.now instrs.items (place + 8 * count))
+        (IsAnswer bytes.now) }
 {
     let mut instrs = Vec::new(alloc);
     for k in 0..count {
@@ -312,7 +314,8 @@ fn read_instrs(
 fn read_instr(bytes: &[u8], place: u32, version: Version, count: u32) -> Result<Instr, ImageFault>
     requires few { length bytes.now ≤ byte_limit }
     requires room { place + 8 < 2 ^ 32 }
-    ensures { MatchResult result (IsInstrRead bytes.now place version count) (IsInstrStop bytes.now place version count) }
+    ensures { MatchResult result (IsInstrRead bytes.now place version count)
+        (IsInstrStop bytes.now place version count) }
 {
     if !is_whole(bytes, place + 8) {
         return Err(truncated(bytes));

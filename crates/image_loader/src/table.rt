@@ -35,8 +35,8 @@ pub enum EntryPart {
     Place,
 }
 
-/// An array's entry as it stands in bytes, whatever its numbers are: `kind` is 0 for an input and 1 for an output, `elem` the
-/// number of an element type.
+/// An array's entry as it stands in bytes, whatever its numbers are: `kind` is 0 for an input and 1 for an output,
+/// `elem` the number of an element type. `place` counts bytes of memory from 0.
 #[derive(Clone, Copy, Debug)]
 pub struct EntryFields<'a> {
     pub name: &'a [u8],
@@ -71,7 +71,8 @@ pub fn check_entry(fields: &EntryFields, memory: u32, earlier: &[Entry]) -> Resu
 }
 
 fn check_name(bytes: &[u8], earlier: &[Entry]) -> Result<Name, EntryPart>
-    ensures { MatchResult result (IsGoodName (raw_entries earlier.now) bytes.now) (IsBadName (raw_entries earlier.now) bytes.now) }
+    ensures { MatchResult result (IsGoodName (raw_entries earlier.now) bytes.now)
+        (IsBadName (raw_entries earlier.now) bytes.now) }
 {
     if bytes.is_empty() || bytes.len() > NAME_LIMIT {
         return Err(EntryPart::NameLength);
@@ -123,7 +124,8 @@ fn check_type(number: u8) -> Result<Elem, EntryPart>
 }
 
 fn check_shape(rows: u32, columns: u32) -> Result<Shape, EntryPart>
-    ensures parts { MatchResult result (λ shape. shape ≡ record { rows = rows; cols = columns }) (IsBadShape rows columns) }
+    ensures parts { MatchResult result (λ shape. shape ≡ record { rows = rows; cols = columns })
+        (IsBadShape rows columns) }
     ensures shape { IfOk result (λ shape. IsExtent shape) }
 {
     if rows == 0 {

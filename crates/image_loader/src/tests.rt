@@ -90,8 +90,8 @@ fn put_number(bytes: &mut Vec<u8>, number: u32) -> Result<(), Fail> {
 /// An entry's name, its kind and type, and its rows, columns and place.
 type EntryRow<'a> = (&'a [u8], [u8; 2], [u32; 3]);
 
-/// An image of version two with 100 bytes of memory, these arrays, and `halt`; a name's length is its number of bytes, or
-/// where it is empty 0.
+/// An image of version two with 100 bytes of memory, these arrays, and `halt`; a name's length is its number of bytes,
+/// or where it is empty 0.
 fn image_of(rt: &HostRuntime, entries: &[EntryRow]) -> Result<Vec<u8>, Fail> {
     let mut bytes = Vec::new(rt.alloc());
     bytes.extend_from_slice(b"VNC2")?;

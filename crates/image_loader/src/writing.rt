@@ -10,7 +10,8 @@ use std::alloc::{AllocError, Global};
 use ven_base::{Elem, Entry, Name, Shape};
 use venice_isa::{Code, Version, encode};
 
-/// The most bytes of what stands before the instructions: the magic and the header, and 256 entries with names of 31 bytes.
+/// The most bytes of what stands before the instructions: the magic and the header, and 256 entries with names of 31
+/// bytes.
 const TABLE_ROOM: usize = 20 + 256 * 46;
 
 /// The image's one spelling. One pass over it.

@@ -423,8 +423,10 @@ const PROGRAMS: [&str; 32] = [
     "input a u32[2,3]; input b u32[2,3]; output p = a << b; output q = a >> b; output r = min(a, b); \
         output s = max(a, b); output t = a == b; output u = a != b; output v = a < b; output w = a <= b; \
         output x = a > b; output z = a >= b; output y = a + b;",
-    "input a i8[2,3]; output p = u8(a + 1); output q = u16(a + 1); output r = i16(a); output s = u32(a - 2); output t = i32(a);",
-    "input a u32[2,3]; output p = u8(a + 1); output q = i8(a); output r = i16(a + 3); output s = u16(a); output t = i32(a);",
+    "input a i8[2,3]; output p = u8(a + 1); output q = u16(a + 1); output r = i16(a); output s = u32(a - 2); \
+        output t = i32(a);",
+    "input a u32[2,3]; output p = u8(a + 1); output q = i8(a); output r = i16(a + 3); output s = u16(a); \
+        output t = i32(a);",
 ];
 
 #[test]

@@ -22,8 +22,8 @@ pub struct CheckedStmt {
     pub value: Option<Typed>,
 }
 
-/// A checked program: one that keeps the language's limits and all rules of checking. Contracts see it as the list of its
-/// statements, and `program_of` gives their plain values.
+/// A checked program: one that keeps the language's limits and all rules of checking. Contracts see it as the list of
+/// its statements, and `program_of` gives their plain values.
 #[derive(Debug, Drop)]
 pub struct Checked {
     pub stmts: Vec<CheckedStmt>,

@@ -19,8 +19,8 @@ use array_syntax::{Program, Stmt};
 use std::alloc::{AllocError, Global};
 use ven_base::{Elem, Name, Shape};
 
-/// The checked program: its statements and expressions, with a type and a shape at each node. A fault is the first in the
-/// order of docs/LANGUAGE.md, "Checking", or `Memory`.
+/// The checked program: its statements and expressions, with a type and a shape at each node. A fault is the first in
+/// the order of docs/LANGUAGE.md, "Checking", or `Memory`.
 pub fn check(alloc: Global, program: Program) -> Result<Checked, CheckFault>
     requires { KeepsLimits program }
     ensures ok { IfOk result (λ checked. IsProgramTyping program.stmts (program_of checked)) }

@@ -1,4 +1,5 @@
-//! Checking an expression: its operands from left to right, and then the node's own rules (docs/LANGUAGE.md, "Checking").
+//! Checking an expression: its operands from left to right, and then the node's own rules (docs/LANGUAGE.md,
+//! "Checking").
 
 ghost use Rattle.std.specs.Prelude.{◌≡◌, ◌≤◌, length, IfOk};
 ghost use Rattle.array_syntax.specs.Limits.{IsWritable, most_statements};

@@ -5,8 +5,8 @@ ghost use Rattle.shape_check.specs.declared.fault.CheckFault.TheVariants.{Memory
 
 use std::alloc::AllocError;
 
-/// Why a program isn't right (docs/LANGUAGE.md, "Checking"). `at` is the place in the text, in bytes from 0, of the name,
-/// node, number or `[` at fault.
+/// Why a program isn't right (docs/LANGUAGE.md, "Checking"). `at` is the place in the text, in bytes from 0, of the
+/// name, node, number or `[` at fault.
 #[derive(Clone, Copy, Debug, PartialEq, Eq)]
 pub enum CheckFault {
     /// An earlier statement declares the name.

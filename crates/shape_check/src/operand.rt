@@ -8,8 +8,8 @@ ghost use Rattle.shape_check.specs.Both.{both_of};
 use crate::{ArrayType, CheckFault, Typed, TypedKind};
 use ven_base::{Elem, Shape};
 
-/// An expression on its way: a checked array, or a literal with its place, which takes the type and shape of what stands
-/// beside it.
+/// An expression on its way: a checked array, or a literal with its place, which takes the type and shape of what
+/// stands beside it.
 #[derive(Drop)]
 pub enum Operand {
     Array(Typed),

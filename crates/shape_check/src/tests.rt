@@ -218,7 +218,8 @@ static CASES: [(&[u8], Option<CheckFault>); 67] = [
         None,
     ),
     (
-        b"input a u8[1024,1024]; input z u8[1,1]; output b = a+a; output c = a+a; output d = a+a; output e = a+a; output f = a+a;",
+        b"input a u8[1024,1024]; input z u8[1,1]; output b = a+a; output c = a+a; output d = a+a; output e = a+a; \
+            output f = a+a;",
         Some(TooMuchWork { need: 16777217 }),
     ),
     (
@@ -226,11 +227,13 @@ static CASES: [(&[u8], Option<CheckFault>); 67] = [
         None,
     ),
     (
-        b"input a u8[1024,1024]; input b u8[1024,1024]; output p = a + b; output q = a + b; output r = a + b; output s = a + b; output t = a + b;",
+        b"input a u8[1024,1024]; input b u8[1024,1024]; output p = a + b; output q = a + b; output r = a + b; \
+            output s = a + b; output t = a + b;",
         Some(TooMuchWork { need: 17825792 }),
     ),
     (
-        b"input a u8[1024,1024]; let b = a+1; let c = a+1; let d = a+1; let e = a+1; let f = a+1; let g = a+1; let h = a+1; let i = a+1;",
+        b"input a u8[1024,1024]; let b = a+1; let c = a+1; let d = a+1; let e = a+1; let f = a+1; let g = a+1; \
+            let h = a+1; let i = a+1;",
         Some(NoOutput),
     ),
 ];

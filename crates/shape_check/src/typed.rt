@@ -8,7 +8,8 @@ pub struct ArrayType {
     pub shape: Shape,
 }
 
-/// An expression of a checked program: what it is, and the type and shape of its array. A literal has those of its neighbour.
+/// An expression of a checked program: what it is, and the type and shape of its array. A literal has those of its
+/// neighbour.
 #[derive(Debug, Drop)]
 #[cycle(typed)]
 pub struct Typed {

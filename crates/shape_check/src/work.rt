@@ -1,4 +1,5 @@
-//! The work of a program: the elements of its inputs and of all nodes that aren't literals (docs/LANGUAGE.md, "Checking").
+//! The work of a program: the elements of its inputs and of all nodes that aren't literals (docs/LANGUAGE.md,
+//! "Checking").
 
 ghost use Rattle.std.specs.Prelude.{◌≡◌, ◌≤◌, ◌*◌, ◌+◌, length, All};
 ghost use Rattle.std.specs.List.{list_any, sum_by};

@@ -21,7 +21,8 @@ flags_from cells place count = map (λ cell. cell.1) (take count (drop place cel
 
 -- the cells where those from a place on hold these bytes and their flags are clear; all others stay
 abbrev pub with_bytes : List Cell → ℕ → List ℕ → List Cell
-with_bytes cells place bytes = take place cells ++ (map (λ byte. (byte, false)) bytes ++ drop (place + length bytes) cells)
+with_bytes cells place bytes =
+    take place cells ++ (map (λ byte. (byte, false)) bytes ++ drop (place + length bytes) cells)
 
 -- the cells where those from a place on have these flags; their bytes and all other cells stay
 abbrev pub with_flags : List Cell → ℕ → List Bool → List Cell

@@ -31,8 +31,8 @@ impl Model for Spad {
 }
 
 impl Spad {
-    /// A scratchpad of so many cells, whose bytes are 0 and whose flags are clear. Condition: `bytes`, the number of its
-    /// cells, is from 1 to 1,048,576. Err is want of memory.
+    /// A scratchpad of so many cells, whose bytes are 0 and whose flags are clear. Condition: `bytes`, the number of
+    /// its cells, is from 1 to 1,048,576. Err is want of memory.
     pub fn new(alloc: Global, bytes: u32) -> Result<Spad, AllocError>
         requires some { 0 < bytes }
         requires few { bytes ≤ most_cells }
@@ -87,8 +87,8 @@ impl Spad {
         out.copy_from_slice(&self.bytes[at..at + out.len()]);
     }
 
-    /// Puts bytes into the cells from `at` on, whose flags are then clear, and changes no other. Condition: they lie in the
-    /// scratchpad.
+    /// Puts bytes into the cells from `at` on, whose flags are then clear, and changes no other. Condition: they lie in
+    /// the scratchpad.
     pub fn put_bytes(&mut self, at: u32, bytes: &[u8])
         requires { at + length bytes.now ≤ length self.old }
         ensures cells { self.new ≡ with_bytes self.old at bytes.now }
@@ -110,7 +110,8 @@ impl Spad {
         flags::fill(&mut self.flags, at, count, flag);
     }
 
-    /// The flags of up to 64 cells from `at` on as bits, that of the first cell lowest. Condition: they lie in the scratchpad.
+    /// The flags of up to 64 cells from `at` on as bits, that of the first cell lowest. Condition: they lie in the
+    /// scratchpad.
     pub fn get_flags(&self, at: u32, count: u32) -> u64
         requires inside { at + count ≤ length self.now }
         requires few { count ≤ 64 }
@@ -120,8 +121,8 @@ impl Spad {
         flags::bits(&self.flags, at, count)
     }
 
-    /// Gives up to 64 cells from `at` on the flags of these bits, the first cell that of the lowest; their bytes and all
-    /// other cells stay. Condition: they lie in the scratchpad.
+    /// Gives up to 64 cells from `at` on the flags of these bits, the first cell that of the lowest; their bytes and
+    /// all other cells stay. Condition: they lie in the scratchpad.
     pub fn put_flags(&mut self, at: u32, count: u32, bits: u64)
         requires inside { at + count ≤ length self.old }
         requires few { count ≤ 64 }

@@ -10,10 +10,13 @@ use thiserror::Error;
 /// Why a load gave nothing: the files tell that the name isn't there, a read failed, or memory ran out.
 #[derive(Clone, Copy, Debug, PartialEq, Eq, Error)]
 pub enum LoadFault {
+    /// The files tell that they hold no file of that name.
     #[error("missing")]
     Missing,
+    /// A read failed, and is counted.
     #[error("failed")]
     Failed,
+    /// Out of memory.
     #[error("memory")]
     Memory,
 }

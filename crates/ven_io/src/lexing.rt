@@ -113,8 +113,8 @@ fn token_at(text: &[u8], start: usize) -> Option<Token>
 /// (docs/LANGUAGE.md, "Tokens"). A comment goes from `#` up to its line end, which is a token itself; at the text's end
 /// the token is `End`, with no bytes. Conditions: `from` is at most the length, and the length is below 2^31 bytes.
 ///
-/// `NotAscii` exactly where the next byte to read is above 127, in a comment too; `Unexpected` exactly where it begins no
-/// token.
+/// `NotAscii` exactly where the next byte to read is above 127, in a comment too; `Unexpected` exactly where it begins
+/// no token.
 pub fn next(text: &[u8], from: u32) -> Result<Token, TokenFault>
     requires place { from ≤ length text.now }
     requires short { length text.now < 2 ^ 31 }

@@ -76,8 +76,8 @@ fn number_from(text: &[u8], start: usize, run: Run, base: u64) -> Result<i64, Nu
     Ok(value as i64)
 }
 
-/// The value of a number's text, 0 to 4,294,967,295: decimal, or hexadecimal after `0x`. Leading zeros count for nothing
-/// (docs/LANGUAGE.md, "Numbers"). Condition: the length is below 2^31 bytes.
+/// The value of a number's text, 0 to 4,294,967,295: decimal, or hexadecimal after `0x`. Leading zeros count for
+/// nothing (docs/LANGUAGE.md, "Numbers"). Condition: the length is below 2^31 bytes.
 ///
 /// `Empty` exactly for the empty text and for `0x`, where no byte stands in a digit's place; `NotDigit` exactly at the
 /// first byte there that isn't a digit of the base; `TooLarge` exactly where all are digits and the value is above

@@ -9,8 +9,10 @@ use thiserror::Error;
 /// Why a save or a put wasn't done: a write failed, or memory ran out.
 #[derive(Clone, Copy, Debug, PartialEq, Eq, Error)]
 pub enum OutFault {
+    /// A write failed, and is counted; a part may be written.
     #[error("failed")]
     Failed,
+    /// Out of memory; nothing was written.
     #[error("memory")]
     Memory,
 }

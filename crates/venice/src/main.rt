@@ -38,8 +38,9 @@ fn status_of<F: Files, S: Sink>(
     // nothing was done.
     ensures promise { IfOk args (λ given.
         ((exit_status result ≡ 15) × (files.new ≡ files.old) × (out.new ≡ out.old))
-        ⊎ Promise F.behaviour (moment (F.state files.old) (S.state out.old)) (moment (F.state files.new) (S.state out.new))
-        (texts_of (drop 1 (into_iter_items given))) (exit_status result)) }
+        ⊎ Promise F.behaviour (moment (F.state files.old) (S.state out.old))
+        (moment (F.state files.new) (S.state out.new)) (texts_of (drop 1 (into_iter_items given)))
+        (exit_status result)) }
 {
     let Ok(args) = args else {
         return ExitCode::from(NO_WORDS);

@@ -25,7 +25,8 @@ use Rattle.venice_asm.specs.Spelling.{head_word, operand_word}
 abbrev pub line_of : Head → List Operand → Statement
 line_of head operands = record { head = head; operands = operands }
 
--- a vector instruction: its operation and types, a letter for each operand that it uses, and `acc` where results are added
+-- a vector instruction: its operation and types, a letter for each operand that it uses, and `acc` where results are
+-- added
 abbrev pub mode_of : VecKind → Operand
 mode_of kind = if uses_b kind.op then ModeAB kind.a_scalar kind.b_scalar else ModeA kind.a_scalar
 

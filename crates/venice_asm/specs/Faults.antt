@@ -1,4 +1,5 @@
--- The image that a text denotes, and the faults of a text: those in it with their places and ranks, and those of the whole.
+-- The image that a text denotes, and the faults of a text: those in it with their places and ranks, and those of the
+-- whole.
 use Rattle.std.specs.Prelude.{◌≡◌, ℕ, ◌-◌, ◌≤◌, List, [], ◌∷◌, ◌++◌, take, length, slice_get, Contains, IsTrue, Option, Some, None, Result, Ok, Err}
 use Rattle.ven_base.specs.First.{IsFirst}
 use Rattle.ven_io.specs.declared.token.Token.{Token}
@@ -69,12 +70,13 @@ abbrev pub seen : List ℕ → Result Token TokenFault → Option Word
 seen text (Ok next) = language.token_of next (bytes_of text next)
 seen text (Err fault) = None
 
--- the text can't go on with what stands behind these words: a byte that begins no token, a token that is no word, a word
--- with which no lines go on, or the text's end
+-- the text can't go on with what stands behind these words: a byte that begins no token, a token that is no word, a
+-- word with which no lines go on, or the text's end
 pub data IsUnexpected (text : List ℕ) (words : List Word) (next : Result Token TokenFault) : Type 0 where
   NoToken : (fault : TokenFault) → next ≡ Err fault → IsUnexpected text words next
   NoWord : (token : Token) → next ≡ Ok token → seen text next ≡ None → IsUnexpected text words next
-  NoLines : (word : Word) → seen text next ≡ Some word → ¬ BeginsLines (words ++ word ∷ []) → IsUnexpected text words next
+  NoLines : (word : Word) → seen text next ≡ Some word → ¬ BeginsLines (words ++ word ∷ [])
+      → IsUnexpected text words next
   NoEnd : (token : Token) → next ≡ Ok token → token.kind ≡ End
       → ((lines : List TextLine) → ¬ AreWordsOf (words ++ Line ∷ []) lines) → IsUnexpected text words next
 
@@ -166,7 +168,8 @@ pub record IsTargetAt (text : List ℕ) (lines : List TextLine) (target : Operan
   })
   pub kind : slice_get (head_kinds head) (length operands) ≡ Some Target
   pub behind : IsBehind language text
-      (text_words (take k lines) ++ (label_words label ++ statement_words (record { head = head; operands = operands }))) next
+      (text_words (take k lines)
+      ++ (label_words label ++ statement_words (record { head = head; operands = operands }))) next
   pub place : at ≡ place_of next
 
 -- a jump's target at this place names no instruction

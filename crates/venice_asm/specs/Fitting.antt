@@ -48,7 +48,9 @@ is_plain_decimal (b ∷ digits) = list_all is_digit (b ∷ digits) && (not (b ==
 abbrev pub register_named : List ℕ → Option ℕ
 register_named [] = None
 register_named (b ∷ digits) =
-    if (b == 114) && (is_plain_decimal digits && nat_lt (digits_value 10 digits) register_bound) then Some (digits_value 10 digits) else None
+    if (b == 114) && (is_plain_decimal digits && nat_lt (digits_value 10 digits) register_bound)
+    then Some (digits_value 10 digits)
+    else None
 
 abbrev pub in_version : Version → VecOp → Option VecOp
 in_version version op = if has_operation version op then Some op else None

@@ -162,7 +162,8 @@ are_in_range (kind ∷ rest) (operand ∷ operands) =
 
 -- ---- the order of lines
 
--- what may begin the next line, behind a label: labels stand in code alone, and the word of arrays begins none before it
+-- what may begin the next line, behind a label: labels stand in code alone, and the word of arrays begins none before
+-- it
 abbrev pub behind_label : Option (List ℕ) → Section → Option Section
 behind_label None section = Some section
 behind_label (Some name) sections.Arrays =
@@ -189,7 +190,8 @@ behind_statement (Some s) section = behind_head s.head section
 abbrev pub section_from : Option Section → List TextLine → Option Section
 section_from section [] = section
 section_from section (line ∷ lines) =
-    section_from (option_and_then (behind_statement line.statement) (option_and_then (behind_label line.label) section)) lines
+    section_from
+    (option_and_then (behind_statement line.statement) (option_and_then (behind_label line.label) section)) lines
 
 abbrev pub section_of : List TextLine → Option Section
 section_of lines = section_from (Some sections.Version) lines

@@ -22,8 +22,8 @@ HasNumber lines head n = Contains (statements_of lines) (record { head = head; o
 -- the array of a statement
 abbrev pub array_of : Head → List Operand → Option RawEntry
 array_of heads.Array
-    (operands.Name name ∷ operands.Output output ∷ operands.Elem elem ∷ operands.Open ∷ operands.Rows rows ∷ operands.Comma
-    ∷ operands.Columns columns ∷ operands.Close ∷ operands.Number place ∷ []) =
+    (operands.Name name ∷ operands.Output output ∷ operands.Elem elem ∷ operands.Open ∷ operands.Rows rows
+    ∷ operands.Comma ∷ operands.Columns columns ∷ operands.Close ∷ operands.Number place ∷ []) =
     Some (record {
       name_length = length name;
       name = name;
@@ -48,7 +48,8 @@ instrs_of lines = filter (λ (s : Statement). is_instr s.head) (statements_of li
 abbrev pub labels_from : ℕ → List TextLine → List (List ℕ × ℕ)
 labels_from count [] = []
 labels_from count (line ∷ lines) =
-    option_map_or (λ (name : List ℕ). (name, count) ∷ []) line.label [] ++ labels_from (count + length (instrs_of (line ∷ []))) lines
+    option_map_or (λ (name : List ℕ). (name, count) ∷ []) line.label []
+    ++ labels_from (count + length (instrs_of (line ∷ []))) lines
 
 abbrev pub labels_of : List TextLine → List (List ℕ × ℕ)
 labels_of lines = labels_from 0 lines

@@ -181,8 +181,9 @@ pub record AddsInstr (head : Head) (last_at : ℕ) (old new : Reading) : Type 0 
   pub is : IsInstrOf head old.operands.items instr
   pub instrs : new.instrs.items ≡ old.instrs.items ++ instr ∷ []
   pub references : MatchOption (jump_target head old.operands.items) (new.references.items ≡ old.references.items)
-      (λ (target : Operand). (reference : Reference) × (reference.at ≡ last_at) × (reference.instr ≡ length old.instrs.items)
-      × (target_operand reference.target ≡ target) × (new.references.items ≡ old.references.items ++ reference ∷ []))
+      (λ (target : Operand). (reference : Reference) × (reference.at ≡ last_at)
+      × (reference.instr ≡ length old.instrs.items) × (target_operand reference.target ≡ target)
+      × (new.references.items ≡ old.references.items ++ reference ∷ []))
   pub table : HasSameTable old new
   pub section : new.section ≡ sections.Code
   pub version : new.version ≡ old.version
@@ -227,7 +228,8 @@ pub record IsEnded (head : Head) (last_at : ℕ) (old new : Reading) : Type 0 wh
   pub phase : new.phase ≡ phases.Start
 
 pub data TakesBehind (head : Head) (last_at : ℕ) (word : Word) (at : ℕ) (old new : Reading) : Type 0 where
-  Ends : word ≡ words.Line → may_end head old ≡ true → IsEnded head last_at old new → TakesBehind head last_at word at old new
+  Ends : word ≡ words.Line → may_end head old ≡ true → IsEnded head last_at old new
+      → TakesBehind head last_at word at old new
   Grows : IsGrown head word at old new → TakesBehind head last_at word at old new
 
 -- no operand may stand there
@@ -242,7 +244,8 @@ pub record IsMisplaced (head : Head) (word : Word) (old : Reading) : Type 0 wher
 abbrev pub RefusesBehind : Head → Word → ℕ → Reading → AsmFault → Type 0
 RefusesBehind head word at old (answers.Unexpected place) = (place ≡ at) × IsMisplaced head word old
 RefusesBehind head word at old (answers.FieldRange place) =
-    (place ≡ at) × ((kind : Kind) × (more : List Kind) × (kinds_in head old ≡ kind ∷ more) × IsOutside old.version kind word)
+    (place ≡ at)
+    × ((kind : Kind) × (more : List Kind) × (kinds_in head old ≡ kind ∷ more) × IsOutside old.version kind word)
 RefusesBehind head word at old answers.Memory = Unit {0}
 RefusesBehind head word at old fault = ⊥
 
@@ -294,7 +297,8 @@ RefusesIn (phases.Behind head last_at) word at old fault = RefusesBehind head wo
 -- what is refused where nothing stands that is a word
 abbrev pub RefusesAll : Phase → ℕ → Reading → AsmFault → Type 0
 RefusesAll (phases.AfterName opening) at r (answers.Unexpected place) =
-    (place ≡ at) × ((head : Head) → instr_named r.version opening.name ≡ Some head → length r.instrs.items < instr_limit)
+    (place ≡ at)
+    × ((head : Head) → instr_named r.version opening.name ≡ Some head → length r.instrs.items < instr_limit)
 RefusesAll (phases.AfterName opening) at r (answers.FieldRange place) = (place ≡ opening.at) × IsFull r opening.name
 RefusesAll phase at r (answers.Unexpected place) = place ≡ at
 RefusesAll phase at r fault = ⊥

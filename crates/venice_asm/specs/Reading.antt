@@ -20,8 +20,9 @@ use Rattle.venice_asm.specs.Spelling.{head_word, keyword_among}
 
 abbrev pub instructions : List Head
 instructions =
-    heads.Halt ∷ heads.Li ∷ heads.Addi ∷ heads.Add ∷ heads.Sub ∷ heads.Mul ∷ heads.Div ∷ heads.Bnz ∷ heads.Blt ∷ heads.Jmp
-    ∷ heads.Set ∷ heads.Vec ∷ heads.Dma ∷ heads.Rwait ∷ heads.Wwait ∷ heads.Vwait ∷ heads.Tag ∷ heads.Twait ∷ []
+    heads.Halt ∷ heads.Li ∷ heads.Addi ∷ heads.Add ∷ heads.Sub ∷ heads.Mul ∷ heads.Div ∷ heads.Bnz ∷ heads.Blt
+    ∷ heads.Jmp ∷ heads.Set ∷ heads.Vec ∷ heads.Dma ∷ heads.Rwait ∷ heads.Wwait ∷ heads.Vwait ∷ heads.Tag
+    ∷ heads.Twait ∷ []
 
 abbrev pub in_version : Version → Head → Option Head
 in_version version head = if has_head version head then Some head else None
@@ -39,8 +40,8 @@ heads_at section = []
 
 -- ---- states
 
--- the whole lines, and what has been read of the next: nothing; a name, which is a label or an instruction's word; a label
--- with its `:`; its first word and some operands
+-- the whole lines, and what has been read of the next: nothing; a name, which is a label or an instruction's word; a
+-- label with its `:`; its first word and some operands
 pub data State : Type 0 where
   Start : (lines : List TextLine) → State
   AfterName : (lines : List TextLine) (name : List ℕ) → State
@@ -73,7 +74,8 @@ pub record HasBegun (head : Head) (operands : List Operand) : Type 0 where
 -- a name at the start of a line
 abbrev pub at_start : List TextLine → List ℕ → State
 at_start lines name =
-    option_map_or (λ (head : Head). Behind lines None head []) (keyword_among head_word (heads_at (section_of lines)) name)
+    option_map_or (λ (head : Head). Behind lines None head [])
+    (keyword_among head_word (heads_at (section_of lines)) name)
     (if has_sizes (section_of lines) then AfterName lines name else Stuck)
 
 -- an instruction's word
@@ -84,11 +86,13 @@ with_instr lines label name =
 -- a word where these kinds may follow
 abbrev pub at_kinds : List Kind → List TextLine → Option (List ℕ) → Head → List Operand → Word → State
 at_kinds rest lines label head operands words.Line =
-    if list_all is_optional rest then with_line lines label (Some (record { head = head; operands = operands })) else Stuck
+    if list_all is_optional rest
+    then with_line lines label (Some (record { head = head; operands = operands }))
+    else Stuck
 at_kinds [] lines label head operands word = Stuck
 at_kinds (kind ∷ rest) lines label head operands word =
-    option_map_or (λ (operand : Operand). Behind lines label head (operands ++ operand ∷ [])) (operand_as (version_of lines) kind word)
-    Stuck
+    option_map_or (λ (operand : Operand). Behind lines label head (operands ++ operand ∷ []))
+    (operand_as (version_of lines) kind word) Stuck
 
 -- a word behind a line's first word
 abbrev pub at_word : State → Word → State

@@ -17,7 +17,8 @@ names_one labels count reference =
 abbrev pub with_reference : List (List ℕ × ℕ) → Reference → List Instr → List Instr
 with_reference labels reference instrs =
     option_map_or
-    (λ (n : ℕ). option_map_or (λ (jump : Instr). slice_set instrs reference.instr (with_target jump n)) (slice_get instrs reference.instr) instrs)
+    (λ (n : ℕ). option_map_or (λ (jump : Instr). slice_set instrs reference.instr (with_target jump n))
+    (slice_get instrs reference.instr) instrs)
     (number_for labels (target_operand reference.target)) instrs
 
 -- where all the references' jumps have theirs
@@ -28,7 +29,8 @@ with_references labels (reference ∷ more) instrs = with_references labels more
 -- the first references name instructions
 abbrev pub NameOnes : List (List ℕ × ℕ) → ℕ → List Reference → ℕ → Type 0
 NameOnes labels count references end =
-    (k : ℕ) (reference : Reference) → k < end → slice_get references k ≡ Some reference → IsTrue (names_one labels count reference)
+    (k : ℕ) (reference : Reference) → k < end → slice_get references k ≡ Some reference
+    → IsTrue (names_one labels count reference)
 
 pub record AreResolved (labels : List (List ℕ × ℕ)) (references : List Reference) (old new : List Instr) : Type 0 where
   pub all : NameOnes labels (length old) references (length references)

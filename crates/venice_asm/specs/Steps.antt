@@ -110,7 +110,8 @@ pub record AreReferences (text : List ℕ) (lines : List TextLine) (references :
 
 -- a line's label stands for the instruction that comes next
 abbrev pub with_label : List TextLine → Option (List ℕ) → List (List ℕ × ℕ)
-with_label lines label = labels_of lines ++ option_map_or (λ (name : List ℕ). (name, length (instrs_of lines)) ∷ []) label []
+with_label lines label =
+    labels_of lines ++ option_map_or (λ (name : List ℕ). (name, length (instrs_of lines)) ∷ []) label []
 
 -- the code keeps what the lines say, and the label of the next
 pub record Keeps (text : List ℕ) (lines : List TextLine) (label : Option (List ℕ)) (r : Reading) : Type 0 where
@@ -154,7 +155,8 @@ pub data IsAt (text : List ℕ) (r : Reading) : State → Type 0 where
       → IsAt text r (AfterLabel lines name)
   AtOperand : (lines : List TextLine) (label : Option (List ℕ)) (head : Head) (at : ℕ)
       → r.phase ≡ phases.Behind head at → AreOperands text lines label head r.operands.items at
-      → (IsTrue (is_instr head) → length r.instrs.items < instr_limit) → Keeps text lines label r → IsAt text r (Behind lines label head r.operands.items)
+      → (IsTrue (is_instr head) → length r.instrs.items < instr_limit) → Keeps text lines label r
+      → IsAt text r (Behind lines label head r.operands.items)
 
 -- the text is read up to a place without a fault
 pub record IsReading (text : List ℕ) (r : Reading) : Type 0 where

@@ -136,11 +136,11 @@ fn table_of(alloc: Global, arrays: &[ArrayLine], memory: u32) -> Result<Vec<Entr
     Ok(entries)
 }
 
-/// The image that the text denotes, where it has no fault, or else its first fault (docs/FORMATS.md, "Assembler texts").
-/// Takes time linear in the text. Condition: the length is at most 67,108,864 bytes.
+/// The image that the text denotes, where it has no fault, or else its first fault (docs/FORMATS.md, "Assembler
+/// texts"). Takes time linear in the text. Condition: the length is at most 67,108,864 bytes.
 ///
-/// `Unexpected`, `FieldRange` and `LabelTwice` come first, from left to right; then `UnknownLabel`, `Table` and `NoHalt`, in
-/// this order.
+/// `Unexpected`, `FieldRange` and `LabelTwice` come first, from left to right; then `UnknownLabel`, `Table` and
+/// `NoHalt`, in this order.
 pub fn assemble(alloc: Global, text: &[u8]) -> Result<Image, AsmFault>
     requires { length text.now ≤ byte_limit }
     ensures { MatchResult result (λ image. DenotesImage text.now image) (λ fault. IsAnswered text.now fault) }

@@ -2,8 +2,8 @@
 
 use thiserror::Error;
 
-/// Why a text denotes no image (docs/FORMATS.md, "Assembler texts"). Places are in bytes of the text, from 0, at which the
-/// token or the byte at fault begins, or the text's end; that of `Table` is in the bytes that the image would have.
+/// Why a text denotes no image (docs/FORMATS.md, "Assembler texts"). Places are in bytes of the text, from 0, at which
+/// the token or the byte at fault begins, or the text's end; that of `Table` is in the bytes that the image would have.
 #[derive(Clone, Copy, Debug, PartialEq, Eq, Error)]
 pub enum AsmFault {
     /// No text goes on there with this byte or token, or none ends there.

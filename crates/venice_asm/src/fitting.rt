@@ -20,7 +20,9 @@ use venice_isa::{PARAMETER_COUNT, REGISTER_COUNT, VecOp, Version};
 /// Why a word is no operand: none such can stand there, or it is out of its range.
 #[derive(Clone, Copy, Debug, PartialEq, Eq)]
 pub enum Misfit {
+    /// None such can stand there.
     Unexpected,
+    /// It is out of its range.
     Range,
 }
 

@@ -7,8 +7,8 @@
 //!
 //! - `assemble`: `DenotesImage` of the text and the image, or the answer of the text's first fault (`IsAnswered`).
 //! - `disassemble`: the text is the image's canonical one (`canonical`), and denotes it.
-//! - `canonical_texts`, `one_answer`, `one_image`: what the definitions settle. An image's canonical text denotes it; a text has
-//!   one fault first, and denotes one image at most, none where it has a fault.
+//! - `canonical_texts`, `one_answer`, `one_image`: what the definitions settle. An image's canonical text denotes it; a
+//!   text has one fault first, and denotes one image at most, none where it has a fault.
 #![tactic(auto)]
 
 mod assembling;

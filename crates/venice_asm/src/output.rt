@@ -108,7 +108,8 @@ fn mode_of(kind: VecKind) -> Operand
 }
 
 fn push_vector(text: &mut Vec<u8>, kind: VecKind) -> Result<(), AllocError>
-    ensures { OnOk result (text.new.items ≡ text.old.items ++ statement_text (line_of heads.Vec (vector_operands kind))) }
+    ensures { OnOk result (text.new.items
+        ≡ text.old.items ++ statement_text (line_of heads.Vec (vector_operands kind))) }
 {
     text.extend_from_slice(Head::Vec.word())?;
     push_operand(text, &Operand::Operation(kind.op))?;
@@ -204,8 +205,8 @@ fn push_code(text: &mut Vec<u8>, code: &Code) -> Result<(), AllocError>
     Ok(())
 }
 
-/// The image's canonical text (docs/FORMATS.md, "Assembler texts"): the lines in their order, with one space between words,
-/// numbers in decimal, and no labels. It denotes the image. Each line ends with byte 10.
+/// The image's canonical text (docs/FORMATS.md, "Assembler texts"): the lines in their order, with one space between
+/// words, numbers in decimal, and no labels. It denotes the image. Each line ends with byte 10.
 pub fn disassemble(alloc: Global, image: &Image) -> Result<Vec<u8>, AllocError>
     ensures text { IfOk result (λ text. text.items ≡ canonical image.now) }
     ensures denotes { IfOk result (λ text. DenotesImage text.items image.now) }

@@ -4,7 +4,8 @@ use crate::head::Head;
 use crate::label::Label;
 use ven_base::Elem;
 
-/// What may begin a line: the version or the scratchpad's size; that size; the memory's size; an array or code; code alone.
+/// What may begin a line: the version or the scratchpad's size; that size; the memory's size; an array or code; code
+/// alone.
 #[derive(Clone, Copy, Debug, PartialEq, Eq)]
 pub enum Section {
     Version,
@@ -14,15 +15,16 @@ pub enum Section {
     Code,
 }
 
-/// A name at the start of a line of code, at this place in bytes: a label, if a `:` follows, and else an instruction's word.
+/// A name at the start of a line of code, at this place in bytes: a label, if a `:` follows, and else an instruction's
+/// word.
 #[derive(Clone, Copy, Debug)]
 pub struct Opening {
     pub name: Label,
     pub at: u32,
 }
 
-/// What has just been read of a line: nothing, a name, a label with its `:`, or its first word and some operands, of which
-/// the last stands at this place in bytes.
+/// What has just been read of a line: nothing, a name, a label with its `:`, or its first word and some operands, of
+/// which the last stands at this place in bytes.
 #[derive(Clone, Copy, Debug)]
 pub enum Phase {
     Start,
@@ -31,7 +33,7 @@ pub enum Phase {
     Behind(Head, u32),
 }
 
-/// An array as its line says.
+/// An array as its line says. `place` counts bytes of memory from 0.
 #[derive(Clone, Copy, Debug)]
 pub struct ArrayLine {
     pub name: Label,

@@ -34,8 +34,9 @@ use std::alloc::Global;
 use ven_io::{Token, TokenFault, TokenKind, next};
 use venice_isa::{Instr, Version};
 
-/// What has been read, up to the place `from`: what the whole lines say, and a part of the next one. Of the arrays the first
-/// 256 are kept; `array_count` counts them all.
+/// What has been read, up to the place `from`: what the whole lines say, and a part of the next one. Of the arrays the
+/// first 256 are kept; `array_count` counts them all. `from` counts bytes of the text from 0; `spad` and `memory` are
+/// in bytes; a label has the number of the instruction behind it.
 #[derive(Drop)]
 pub struct Reading {
     pub version: Version,
@@ -102,6 +103,7 @@ fn unread_at(fault: &TokenFault) -> u32
 }
 
 impl Reading {
+    /// Nothing of a text: version one, no lines, and none begun. It takes no memory.
     pub fn new(alloc: Global) -> Reading
         ensures { (text : List ℕ) → IsReading text result }
     {
@@ -186,7 +188,8 @@ impl Reading {
 
     /// A word at the start of a line.
     fn take_first(&mut self, word: &Word, at: u32) -> Result<(), AsmFault>
-        ensures { MatchResult result (λ _. TakesFirst self.old word.now at self.new) (RefusesFirst self.old word.now at) }
+        ensures { MatchResult result (λ _. TakesFirst self.old word.now at self.new)
+            (RefusesFirst self.old word.now at) }
     {
         let name = match word {
             Word::Line => return Ok(()),
@@ -276,7 +279,8 @@ impl Reading {
         requires small { IsSmall word.now }
         requires room { HasRoom self.old }
         requires begun { HasBegun head self.old.operands.items }
-        requires whole { IsTrue (is_instr head) → may_end head self.old ≡ true → IsWholeInstr head self.old.operands.items }
+        requires whole { IsTrue (is_instr head) → may_end head self.old ≡ true
+            → IsWholeInstr head self.old.operands.items }
         ensures { MatchResult result (λ _. TakesBehind head last_at word.now at self.old self.new)
             (RefusesBehind head word.now at self.old) }
     {

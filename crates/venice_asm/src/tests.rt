@@ -32,33 +32,48 @@ const TEXTS: [(&[u8], &[u8]); 10] = [
         b"spad 1\nmemory 0\nli r1 1\nbnz r1 1\nhalt\n",
     ),
     (
-        b"# a text\r\n\n version 2 # of version 2\n\n# sizes\nspad 0x10 # of the scratchpad\n\tmemory 0020\n\narray x in u32 [ 1 , 2 ] 0 # an input\narray sadd out i8[1,1]8\nhalt:jmp end # forward\nli:\nvec: vec sadd i16 sv acc # a sum\nend: # here\nn234567890123456789012345678901: halt # behind labels\nunused: # at the end",
-        b"version 2\nspad 16\nmemory 20\narray x in u32[1,2] 0\narray sadd out i8[1,1] 8\njmp 2\nvec sadd i16 sv acc\nhalt\n",
+        b"# a text\r\n\n version 2 # of version 2\n\n# sizes\nspad 0x10 # of the scratchpad\n\tmemory 0020\n\n\
+            array x in u32 [ 1 , 2 ] 0 # an input\narray sadd out i8[1,1]8\nhalt:jmp end # forward\nli:\n\
+            vec: vec sadd i16 sv acc # a sum\nend: # here\nn234567890123456789012345678901: halt # behind labels\n\
+            unused: # at the end",
+        b"version 2\nspad 16\nmemory 20\narray x in u32[1,2] 0\narray sadd out i8[1,1] 8\njmp 2\nvec sadd i16 sv acc\n\
+            halt\n",
     ),
     (
         b"spad 1\nmemory 0\nx:\narray: jmp array\nspad: jmp r32\nr32: halt\n",
         b"spad 1\nmemory 0\njmp 0\njmp 2\nhalt\n",
     ),
     (
-        b"version 2\nspad 48\nmemory 48\narray x in u8[1,48] 0\nli r1 32\nli r2 1\nli r3 16\nset mrows r2\nset mbytes r1\ndma read\nset mem r1\nset spad r1\nset mbytes r3\ntag r2\ndma read\ntwait r2\nhalt\n",
-        b"version 2\nspad 48\nmemory 48\narray x in u8[1,48] 0\nli r1 32\nli r2 1\nli r3 16\nset mrows r2\nset mbytes r1\ndma read\nset mem r1\nset spad r1\nset mbytes r3\ntag r2\ndma read\ntwait r2\nhalt\n",
+        b"version 2\nspad 48\nmemory 48\narray x in u8[1,48] 0\nli r1 32\nli r2 1\nli r3 16\nset mrows r2\n\
+            set mbytes r1\ndma read\nset mem r1\nset spad r1\nset mbytes r3\ntag r2\ndma read\ntwait r2\nhalt\n",
+        b"version 2\nspad 48\nmemory 48\narray x in u8[1,48] 0\nli r1 32\nli r2 1\nli r3 16\nset mrows r2\n\
+            set mbytes r1\ndma read\nset mem r1\nset spad r1\nset mbytes r3\ntag r2\ndma read\ntwait r2\nhalt\n",
     ),
     (
-        b"version 2\nspad 32\nmemory 32\narray x in u8[1,32] 0\nli r1 32\nli r2 1\nset mrows r2\nset mbytes r1\ndma read\ndma read\nhalt\n",
-        b"version 2\nspad 32\nmemory 32\narray x in u8[1,32] 0\nli r1 32\nli r2 1\nset mrows r2\nset mbytes r1\ndma read\ndma read\nhalt\n",
+        b"version 2\nspad 32\nmemory 32\narray x in u8[1,32] 0\nli r1 32\nli r2 1\nset mrows r2\nset mbytes r1\n\
+            dma read\ndma read\nhalt\n",
+        b"version 2\nspad 32\nmemory 32\narray x in u8[1,32] 0\nli r1 32\nli r2 1\nset mrows r2\nset mbytes r1\n\
+            dma read\ndma read\nhalt\n",
     ),
     (
-        b"spad 32\nmemory 32\narray x in u8[1,32] 0\nli r1 32\nli r2 1\nset mrows r2\nset mbytes r1\ndma read\ndma read\nhalt\n",
-        b"spad 32\nmemory 32\narray x in u8[1,32] 0\nli r1 32\nli r2 1\nset mrows r2\nset mbytes r1\ndma read\ndma read\nhalt\n",
+        b"spad 32\nmemory 32\narray x in u8[1,32] 0\nli r1 32\nli r2 1\nset mrows r2\nset mbytes r1\ndma read\n\
+            dma read\nhalt\n",
+        b"spad 32\nmemory 32\narray x in u8[1,32] 0\nli r1 32\nli r2 1\nset mrows r2\nset mbytes r1\ndma read\n\
+            dma read\nhalt\n",
     ),
     (
-        b"spad 16\nmemory 32\narray x in u32[1,4] 0\narray y out u32[1,4] 16\nli r1 16\nli r2 1\nli r3 4\nli r4 3\nset mbytes r1\nset mrows r2\ndma read\nrwait r5\nset vl r4\nset rows r2\nset dst r3\nset b r2\nvec add u32 vs\nvwait\nset mem r1\ndma write\nhalt\n",
-        b"spad 16\nmemory 32\narray x in u32[1,4] 0\narray y out u32[1,4] 16\nli r1 16\nli r2 1\nli r3 4\nli r4 3\nset mbytes r1\nset mrows r2\ndma read\nrwait r5\nset vl r4\nset rows r2\nset dst r3\nset b r2\nvec add u32 vs\nvwait\nset mem r1\ndma write\nhalt\n",
+        b"spad 16\nmemory 32\narray x in u32[1,4] 0\narray y out u32[1,4] 16\nli r1 16\nli r2 1\nli r3 4\nli r4 3\n\
+            set mbytes r1\nset mrows r2\ndma read\nrwait r5\nset vl r4\nset rows r2\nset dst r3\nset b r2\n\
+            vec add u32 vs\nvwait\nset mem r1\ndma write\nhalt\n",
+        b"spad 16\nmemory 32\narray x in u32[1,4] 0\narray y out u32[1,4] 16\nli r1 16\nli r2 1\nli r3 4\nli r4 3\n\
+            set mbytes r1\nset mrows r2\ndma read\nrwait r5\nset vl r4\nset rows r2\nset dst r3\nset b r2\n\
+            vec add u32 vs\nvwait\nset mem r1\ndma write\nhalt\n",
     ),
 ];
 
-/// The faults: `u` an unexpected token, `r` one out of its range, `t` a label twice, `l` an unknown one, `b` a field of the
-/// table, each with its place, and `h` no halt. They were worked out by a program that reads by the grammar's words alone.
+/// The faults: `u` an unexpected token, `r` one out of its range, `t` a label twice, `l` an unknown one, `b` a field of
+/// the table, each with its place, and `h` no halt. They were worked out by a program that reads by the grammar's words
+/// alone.
 const FAULTS: [(&[u8], u8, u32); 85] = [
     (b"", b'u', 0),
     (b"spad 16", b'u', 7),

@@ -51,7 +51,8 @@ bound_line passes = spaced (codes "bound") (Number (bound_of passes) ∷ [])
 -- outputs, need, passes and bound
 abbrev pub plan_text : List Statement → List Pass → ℕ → List ℕ
 plan_text program passes spad =
-    lines_from (λ k. output_line) 0 program ++ (need_line passes ++ (lines_from (pass_line spad) 1 passes ++ bound_line passes))
+    lines_from (λ k. output_line) 0 program
+    ++ (need_line passes ++ (lines_from (pass_line spad) 1 passes ++ bound_line passes))
 
 unfoldable pub check : Behaviour → (program : List ℕ) → ℕ → Stage Answer
 check files program spad = do

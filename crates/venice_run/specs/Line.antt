@@ -86,7 +86,8 @@ abbrev pub array_parts : ArrayFault → List Part
 array_parts (array_fault.Unexpected at) = wrong_at kind.Inputs (codes "unexpected") at
 array_parts (array_fault.OutOfType at) = wrong_at kind.Inputs (codes "out of type") at
 array_parts (array_fault.CountWrong name need have) =
-    Words (codes "inputs count") ∷ Words name ∷ Words (codes "need") ∷ Number need ∷ Words (codes "have") ∷ Number have ∷ []
+    Words (codes "inputs count") ∷ Words name ∷ Words (codes "need") ∷ Number need
+    ∷ Words (codes "have") ∷ Number have ∷ []
 array_parts (array_fault.Twice name) = wrong_array (codes "twice") name
 array_parts array_fault.Memory = Words (codes "memory") ∷ []
 

@@ -17,8 +17,8 @@ use std::alloc::Global;
 use ven_io::Files;
 use venice_asm::assemble;
 
-/// It saves the image that TEXT denotes under the name IMAGE and prints nothing, or comes to its first refusal. Files are
-/// only read here; the save comes with the answer.
+/// It saves the image that TEXT denotes under the name IMAGE and prints nothing, or comes to its first refusal. Files
+/// are only read here; the save comes with the answer.
 pub(crate) fn asm<'a, F: Files>(
     alloc: Global,
     files: &mut F,

@@ -22,8 +22,8 @@ use std::alloc::{AllocError, Global};
 use ven_base::Fold;
 use ven_io::Files;
 
-/// It prints the outputs' shapes of PROGRAM, its need, its passes with their tiles in SPAD bytes, and its bound, or comes
-/// to its first refusal. Files are only read.
+/// It prints the outputs' shapes of PROGRAM, its need, its passes with their tiles in SPAD bytes, and its bound, or
+/// comes to its first refusal. Files are only read.
 pub(crate) fn check<'a, F: Files>(
     alloc: Global,
     files: &mut F,

@@ -25,7 +25,9 @@ pub enum Fault {
 /// A command ends without its output: by a refusal, or by a fault of the outside.
 #[derive(Clone, Copy, Debug, PartialEq, Eq)]
 pub enum Ending {
+    /// The command's first refusal.
     Refused(Refusal),
+    /// A load failed, or memory ran out.
     Failed(Fault),
 }
 

@@ -22,8 +22,8 @@ use pass_plan::{Pass, label};
 use std::alloc::{AllocError, Global};
 use ven_io::Files;
 
-/// It prints for each pass of PROGRAM an order of evaluation and what it holds, or comes to its first refusal. Files are
-/// only read.
+/// It prints for each pass of PROGRAM an order of evaluation and what it holds, or comes to its first refusal. Files
+/// are only read.
 pub(crate) fn explain<'a, F: Files>(
     alloc: Global,
     files: &mut F,

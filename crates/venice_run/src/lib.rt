@@ -20,9 +20,9 @@
 //!   after it, and the status is 9; or memory ran out between two lines, with status 10. Where there is no memory for a
 //!   line, the line of memory that ran out is put in its place.
 //!
-//! The commands are `eval`, `check`, `explain`, `run`, `exec`, `asm` and `disasm`. Each has its stages, in the order of its
-//! refusals, as a definition in the file of its name in `specs`; `Programs`, `Inputs`, `Plan`, `Images` and `Grants` there have
-//! the stages that commands share. `asm` is the one that saves.
+//! The commands are `eval`, `check`, `explain`, `run`, `exec`, `asm` and `disasm`. Each has its stages, in the order of
+//! its refusals, as a definition in the file of its name in `specs`; `Programs`, `Inputs`, `Plan`, `Images` and
+//! `Grants` there have the stages that commands share. `asm` is the one that saves.
 //!
 //! Commands only read (`OnlyLoads`) and answer an `Answer`: a save, a text, and the refusal that the text ends in,
 //! where it ends in one. docs/ARCHITECTURE.md says how a command is added.

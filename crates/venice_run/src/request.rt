@@ -61,6 +61,7 @@ pub(crate) enum Request<'a> {
 }
 
 impl Request<'_> {
+    /// The command with its numbers, without its names.
     pub fn command(self) -> Command
         ensures { result ≡ command_of self.entry }
     {

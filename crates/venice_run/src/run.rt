@@ -27,8 +27,8 @@ use std::alloc::{AllocError, Global};
 use ven_base::{Array, Arrays, Elem, Name, Shape};
 use ven_io::Files;
 
-/// It prints the outputs of PROGRAM, an addition of two arrays, on INPUTS, or comes to its first refusal. Files are only
-/// read.
+/// It prints the outputs of PROGRAM, an addition of two arrays, on INPUTS, or comes to its first refusal. Files are
+/// only read.
 pub(crate) fn run<'a, F: Files>(
     alloc: Global,
     files: &mut F,

@@ -237,8 +237,8 @@ fn a_program_has_up_to_65536_bytes(rt: HostRuntime) -> Result<(), Fail> {
     Ok(())
 }
 
-/// The scratchpad, which load fails, which put fails, the status, and what the sink has taken. INPUTS is loaded only once
-/// the scratchpad was found large enough, and no third load is made.
+/// The scratchpad, which load fails, which put fails, the status, and what the sink has taken. INPUTS is loaded only
+/// once the scratchpad was found large enough, and no third load is made.
 static OUTSIDE_FAULTS: [(&str, u64, u64, u8, &str); 7] = [
     ("28", 0, 0, 0, SUMS),
     ("28", 0, 2, 9, "y u8[1,4]\n5 7 "),

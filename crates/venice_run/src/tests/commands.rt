@@ -1,4 +1,5 @@
-//! The commands over programs and their inputs. Every operation and every refusal stand in the transcripts in tests/cli.
+//! The commands over programs and their inputs. Every operation and every refusal stand in the transcripts in
+//! tests/cli.
 
 use super::{INPUTS, PROGRAM, reply};
 use std::test::Fail;

@@ -1,4 +1,5 @@
-//! The commands over images: assembled, run and printed as texts again. Most rows stand in the transcripts in tests/cli.
+//! The commands over images: assembled, run and printed as texts again. Most rows stand in the transcripts in
+//! tests/cli.
 
 use super::status;
 use std::alloc::Global;
@@ -36,13 +37,16 @@ static HALT_IMAGE: [u8; 28] = [
 
 /// A read of 16 bytes, and an addition to them that doesn't wait for it.
 const RACE: &str =
-    "spad 16\nmemory 16\narray a in u8[1,16] 0\nli r1 16\nli r2 1\nset mbytes r1\nset mrows r2\nset vl r1\nset rows r2\nset b r2\ndma read\nvec add u8 vs\nhalt\n";
+    "spad 16\nmemory 16\narray a in u8[1,16] 0\nli r1 16\nli r2 1\nset mbytes r1\nset mrows r2\n\
+        set vl r1\nset rows r2\nset b r2\ndma read\nvec add u8 vs\nhalt\n";
 
 const SIXTEEN: &str = "a u8[1,16] 0 1 2 3 4 5 6 7 8 9 10 11 12 13 14 15";
 
 /// A read of one row behind the other into one cell, and a write of that cell; in version 2, with a tag.
 const TWICE: &str =
-    "version 2\nspad 4\nmemory 8\narray x in u8[1,2] 0\narray y out u8[1,1] 4\nli r1 1\nli r2 2\nli r3 4\nset mrows r2\nset mbytes r1\nset mstep r1\ntag r1\ndma read\ntwait r1\nset mrows r1\nset mem r3\ndma write\nhalt\n";
+    "version 2\nspad 4\nmemory 8\narray x in u8[1,2] 0\narray y out u8[1,1] 4\nli r1 1\nli r2 2\nli r3 4\n\
+        set mrows r2\nset mbytes r1\nset mstep r1\ntag r1\ndma read\ntwait r1\nset mrows r1\nset mem r3\n\
+        dma write\nhalt\n";
 
 /// A text, its inputs and grants, SPAD, the status and what `exec` prints with 4 lanes.
 static RUNS: [(&str, &str, &str, &str, u8, &str); 6] = [
