@@ -16,6 +16,7 @@ pub mod Soundness
 pub mod Unique
 pub mod Need
 pub mod Limits
+pub mod MappedLeaves
 pub mod Loops
 pub mod Planning
 pub mod Placement

@@ -11,6 +11,7 @@ use Rattle.pass_plan.specs.Pass.{Pass}
 use Rattle.pass_plan.specs.Need.{need_of, bound_of, AreSmall}
 use Rattle.pass_plan.specs.Sound.{Split, IsSound, destinations_of}
 use Rattle.expr_split.specs.Places.{input_types, IsSplitOf, left_of}
+use Rattle.expr_split.specs.Maps.{maps_of, mapped_in}
 
 -- done in order on whole arrays, the passes leave each output's meaning
 abbrev pub KeepsMeaning : Type 0
@@ -51,6 +52,23 @@ abbrev pub TreesAreFew : Type 0
 TreesAreFew =
     (program : List Statement) (split : Split) → IsCheckedProgram program → IsSplitOf program split
     → sum_by (λ (pass : Pass). nodes_of pass.tree) split.passes ≤ 4 * sum_by (in_value 0 checked.nodes_of) program
+
+-- the leaves that are read under a map are no more than the program's map nodes: each of these is a leaf of one tree
+-- alone, since a name that isn't cut is put in its place at most once
+abbrev pub MapsAreFew : Type 0
+MapsAreFew =
+    (program : List Statement) (split : Split) → IsSplitOf program split
+    → mapped_in split ≤ sum_by (in_value 0 maps_of) program
+
+-- so few nodes and leaves under maps that the code of the split's passes fits an image: the first number is four times
+-- the most nodes of a program, the second the most nodes
+pub record HasFewNodes (split : Split) : Type 0 where
+  pub nodes : sum_by (λ (pass : Pass). nodes_of pass.tree) split.passes ≤ 16384
+  pub maps : mapped_in split ≤ 4096
+
+abbrev pub SplitsHaveFewNodes : Type 0
+SplitsHaveFewNodes =
+    (program : List Statement) (split : Split) → IsCheckedProgram program → IsSplitOf program split → HasFewNodes split
 
 -- no pass has many leaves or nodes, and there are few passes
 abbrev pub SplitsAreSmall : Type 0

@@ -5,4 +5,5 @@ pub mod Numbers
 pub mod Tally
 pub mod Asks
 pub mod Placing
+pub mod Maps
 pub mod Laws

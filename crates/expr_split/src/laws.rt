@@ -1,5 +1,5 @@
 //! Laws of splits, each the contract of a function that does nothing. A caller of the function may use them.
-ghost use Rattle.expr_split.specs.Laws.{KeepsMeaning, MakesArraysInOrder, SplitsAreOne, SplitsAreSound, BoundsAreLawful, NeedsAreSome, TreesAreFew, SplitsAreSmall};
+ghost use Rattle.expr_split.specs.Laws.{KeepsMeaning, MakesArraysInOrder, SplitsAreOne, SplitsAreSound, BoundsAreLawful, NeedsAreSome, TreesAreFew, MapsAreFew, SplitsHaveFewNodes, SplitsAreSmall};
 
 /// Done in order on whole arrays, the passes of a program's split leave each output's meaning.
 pub fn meaning_law()
@@ -15,11 +15,13 @@ pub fn split_laws()
 {}
 
 /// The bound of every checked program is at most 1,099,511,627,776 steps, and its need at least 5 bytes; its trees have
-/// together at most four times its nodes, so at most 16,384; and it has at most 8,192 passes, each with at most 8,192
-/// leaves and as many nodes.
+/// together at most four times its nodes, so at most 16,384; its leaves under maps are no more than its map nodes, so at
+/// most 4,096; and it has at most 8,192 passes, each with at most 8,192 leaves and as many nodes.
 pub fn size_laws()
     ensures bounds { BoundsAreLawful }
     ensures needs { NeedsAreSome }
     ensures trees { TreesAreFew }
+    ensures maps { MapsAreFew }
+    ensures few { SplitsHaveFewNodes }
     ensures small { SplitsAreSmall }
 {}
