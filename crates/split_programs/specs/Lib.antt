@@ -1,0 +1,12 @@
+pub mod Sequence
+pub mod Geometry
+pub mod StepProgram
+pub mod RootProgram
+pub mod TileProgram
+pub mod PassProgram
+pub mod SplitProgram
+pub mod CodeLaws
+pub mod Examples
+pub mod SplitFits
+pub mod CodeRoom
+pub mod CostLaws

@@ -1,0 +1,10 @@
+pub mod Axis
+pub mod SourcedRuns
+pub mod ReadProgram
+pub mod ReadLaws
+pub mod FillProgram
+pub mod FillLaws
+pub mod Examples
+pub mod FitLaws
+pub mod Cost
+pub mod CostLaws
