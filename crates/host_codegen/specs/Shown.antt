@@ -1,0 +1,26 @@
+-- Layouts, rows and sources of the code as plain values.
+use Rattle.transfer_builder.specs.Shown.{small_of}
+use Rattle.host_codegen.specs.declared.geometry.Layout.{Layout}
+use Rattle.host_codegen.specs.declared.steps.RowsExpr.{RowsExpr}
+use Rattle.host_codegen.specs.declared.steps.SourceExpr.{SourceExpr}
+use Rattle.host_codegen.specs.declared.steps.SourceExpr.TheVariants.{Buffer, Scalar}
+use Rattle.split_programs.specs.Geometry as geometry
+use Rattle.split_programs.specs.StepProgram as steps
+
+abbrev pub layout_at : Layout → geometry.Layout
+layout_at layout = record {
+  domain = record { rows = layout.rows; cols = layout.cols };
+  tile = layout.tile;
+  across = layout.across;
+  per_row = layout.per_row;
+  bytes = layout.bytes;
+  leaves = layout.leaves;
+  slots = layout.slots;
+}
+
+abbrev pub rows_at : RowsExpr → steps.RowsExpr
+rows_at shape = record { rows = small_of shape.rows; cols = shape.cols }
+
+abbrev pub source_at : SourceExpr → steps.SourceExpr
+source_at (Buffer cell) = steps.Buffer (small_of cell)
+source_at (Scalar n) = steps.Scalar n

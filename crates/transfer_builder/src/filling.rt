@@ -1,0 +1,360 @@
+//! Filling what has no source in a piece of a leaf (docs/COMPILER.md, "Programs of transfers").
+ghost use Rattle.std.specs.Prelude.{◌≡◌, ◌+◌, ◌≤◌, ◌<◌, ◌^◌, ◌-◌, true, false, IfOk};
+ghost use Rattle.ven_base.specs.Extent.{IsExtent};
+ghost use Rattle.ven_base.specs.Mapping.{FitsShape};
+ghost use Rattle.ven_base.specs.Place.{IsMove};
+ghost use Rattle.host_programs.specs.Expr as plain;
+ghost use Rattle.host_programs.specs.Program as list;
+ghost use Rattle.host_programs.specs.Shown.{expr_of, order_of, program_of};
+ghost use Rattle.transfer_programs.specs.Axis as axes;
+ghost use Rattle.transfer_programs.specs.FillProgram as plan;
+ghost use Rattle.transfer_builder.specs.Shown.{small_of, piece_of, fill_sides_of, fill_of};
+
+use crate::axis::Span;
+use crate::small_expr::{PieceExpr, SmallExpr};
+use crate::sums::{copy_of, lesser, plus, scaled, times};
+use host_programs::{Expr, Order, Program, VectorOrder};
+use pass_plan::Leaf;
+use std::alloc::{AllocError, Global};
+use vector_codegen::{move_kind, word_of};
+use ven_base::{Elem, Mapping, Shape};
+
+/// The type of a piece's elements and the number that fills it; its first cell, and how wide it is.
+#[derive(Clone, Copy)]
+pub struct FillSides {
+    pub elem: Elem,
+    pub value: i64,
+    pub buffer: SmallExpr,
+    pub width: SmallExpr,
+}
+
+/// So many rows of so many elements from this cell on, each row so many bytes after the one before.
+#[derive(Drop)]
+pub struct FillExpr {
+    pub at: Expr,
+    pub rows: Expr,
+    pub cols: Expr,
+    pub step: Expr,
+}
+
+/// Columns of rows: the first row, how many rows there are, how many bytes stand before the columns in each, and how
+/// many columns there are.
+#[derive(Drop)]
+struct ColumnsExpr {
+    first: Expr,
+    count: Expr,
+    before: Expr,
+    columns: SmallExpr,
+}
+
+// ---- one fill
+
+/// A move of the number.
+fn fill_order(s: FillSides, fill: FillExpr) -> Order
+    ensures { order_of result ≡ plan.fill_order (fill_sides_of s) (fill_of fill) }
+{
+    Order::IssueVector(VectorOrder {
+        kind: move_kind(s.elem, true, false),
+        vl: fill.cols,
+        rows: fill.rows,
+        dst: fill.at,
+        a: Expr::Number(word_of(s.value)),
+        b: Expr::Number(0),
+        dst_step: fill.step,
+        a_step: Expr::Number(0),
+        b_step: Expr::Number(0),
+    })
+}
+
+/// How many bytes a row of the piece has.
+fn row_bytes(alloc: Global, s: FillSides) -> Result<Expr, AllocError>
+    ensures { IfOk result (λ e. expr_of e ≡ plan.row_bytes (fill_sides_of s)) }
+{
+    scaled(alloc, s.width.expr(alloc)?, s.elem.size())
+}
+
+/// Fills whole rows, which are one row, where there are any.
+fn rows_fill(
+    alloc: Global,
+    s: FillSides,
+    first: Expr,
+    count: SmallExpr,
+) -> Result<Program, AllocError>
+    ensures { IfOk result (λ p. program_of p ≡ plan.rows_fill (fill_sides_of s) (expr_of first) (small_of count)) }
+{
+    let way = times(alloc, first, row_bytes(alloc, s)?)?;
+    let fill = FillExpr {
+        at: plus(alloc, way, s.buffer.expr(alloc)?)?,
+        rows: Expr::Number(1),
+        cols: Expr::product(alloc, count.expr(alloc)?, s.width.expr(alloc)?)?,
+        step: Expr::Number(0),
+    };
+    let command = Program::Emit(fill_order(s, fill));
+    Program::unless_less(alloc, count.expr(alloc)?, Expr::Number(1), command)
+}
+
+/// The columns, or where they are as wide as the piece, so many times as many: the number is in a register.
+fn joined_columns(
+    alloc: Global,
+    s: FillSides,
+    columns: SmallExpr,
+    rows: u8,
+) -> Result<Expr, AllocError>
+    ensures { IfOk result (λ e. expr_of e ≡ plain.IfLess (small_of columns) (small_of s.width) (small_of columns)
+        (plain.Product (plain.Variable rows) (small_of columns))) }
+{
+    let all = Expr::product(alloc, Expr::Variable(rows), columns.expr(alloc)?)?;
+    let (part, width) = (columns.expr(alloc)?, s.width.expr(alloc)?);
+    Expr::if_less(alloc, columns.expr(alloc)?, width, part, all)
+}
+
+/// So many columns of rows. Register `d` has how many rows, and the next one how many are left where rows as wide as
+/// the piece are one.
+fn columns_fill(
+    alloc: Global,
+    s: FillSides,
+    part: ColumnsExpr,
+    d: u8,
+) -> Result<Program, AllocError>
+    requires { d + 1 ≤ 255 }
+    ensures { IfOk result (λ p. program_of p ≡ plan.columns_fill (fill_sides_of s) (expr_of part.first)
+        (expr_of part.count) (expr_of part.before) (small_of part.columns) d) }
+{
+    let columns = part.columns;
+    let way = times(alloc, part.first, row_bytes(alloc, s)?)?;
+    let cell = plus(alloc, part.before, s.buffer.expr(alloc)?)?;
+    let (rows, two, none) = (Expr::Variable(d + 1), Expr::Number(2), Expr::Number(0));
+    let fill = FillExpr {
+        at: plus(alloc, way, cell)?,
+        rows: Expr::Variable(d + 1),
+        cols: joined_columns(alloc, s, columns, d)?,
+        step: Expr::if_less(alloc, rows, two, none, row_bytes(alloc, s)?)?,
+    };
+    let command = Program::Emit(fill_order(s, fill));
+    let (width, all, one) = (s.width.expr(alloc)?, Expr::Variable(d), Expr::Number(1));
+    let left = Expr::if_less(alloc, columns.expr(alloc)?, width, all, one)?;
+    let named = Program::with(alloc, left, command)?;
+    let guarded = Program::unless_less(alloc, Expr::Variable(d), Expr::Number(1), named)?;
+    let counted = Program::with(alloc, part.count, guarded)?;
+    Program::unless_less(alloc, columns.expr(alloc)?, Expr::Number(1), counted)
+}
+
+// ---- the fills of a shift
+
+/// How many places of an axis of `size` places come from behind its end, where they come from places `way` further on.
+fn outside_later(alloc: Global, size: u32, way: u32, span: Span) -> Result<Expr, AllocError>
+    requires { size < 2 ^ 32 - 1 }
+    ensures { IfOk result (λ e. expr_of e ≡ plain.IfLess
+        (plain.Offset (plain.Sum (small_of span.start) (small_of span.n)) way) (plain.Number (size + 1)) (plain.Number 0)
+        (axes.lesser (small_of span.n)
+        (plain.Difference (plain.Offset (plain.Sum (small_of span.start) (small_of span.n)) way) (plain.Number size)))) }
+{
+    let end = Expr::sum(alloc, span.start.expr(alloc)?, span.n.expr(alloc)?)?;
+    let past = Expr::offset(alloc, end, way)?;
+    let over = Expr::difference(alloc, copy_of(alloc, &past)?, Expr::Number(size))?;
+    let count = lesser(alloc, span.n.expr(alloc)?, over)?;
+    Expr::if_less(alloc, past, Expr::Number(size + 1), Expr::Number(0), count)
+}
+
+/// How many places of an axis come from before its first, where they come from places `way` further back.
+fn outside_earlier(alloc: Global, way: u32, span: Span) -> Result<Expr, AllocError>
+    requires { 1 ≤ way }
+    ensures { IfOk result (λ e. expr_of e ≡ plain.IfLess (plain.Number (way - 1)) (small_of span.start)
+        (plain.Number 0) (axes.lesser (small_of span.n) (plain.Difference (plain.Number way) (small_of span.start)))) }
+{
+    let left = Expr::difference(alloc, Expr::Number(way), span.start.expr(alloc)?)?;
+    let count = lesser(alloc, span.n.expr(alloc)?, left)?;
+    let start = span.start.expr(alloc)?;
+    Expr::if_less(alloc, Expr::Number(way - 1), start, Expr::Number(0), count)
+}
+
+/// How many places of a shifted axis have no source: the last ones, or the first.
+fn outside_expr(alloc: Global, size: u32, by: i64, span: Span) -> Result<Expr, AllocError>
+    requires size { size < 2 ^ 32 - 1 }
+    requires moves { IsMove by }
+    ensures { IfOk result (λ e. expr_of e ≡ plan.outside_expr size by (small_of span.start) (small_of span.n)) }
+{
+    if by >= 0 {
+        outside_later(alloc, size, (by as u32).min(size), span)
+    } else {
+        outside_earlier(alloc, -by as u32, span)
+    }
+}
+
+/// How many bytes of a row stand before its columns without a source.
+fn bytes_before(
+    alloc: Global,
+    s: FillSides,
+    by: i64,
+    columns: SmallExpr,
+) -> Result<Expr, AllocError>
+    ensures { IfOk result (λ e. expr_of e ≡ plan.bytes_before (fill_sides_of s) by (small_of columns)) }
+{
+    if by < 0 {
+        return Ok(Expr::Number(0));
+    }
+    let way = Expr::difference(alloc, s.width.expr(alloc)?, columns.expr(alloc)?)?;
+    scaled(alloc, way, s.elem.size())
+}
+
+/// Rows and columns without a source: register `d` has how many rows have none, and the next one how many columns.
+#[derive(Clone, Copy)]
+struct Outside {
+    height: SmallExpr,
+    rows: SmallExpr,
+    columns: SmallExpr,
+}
+
+/// How many rows have a source.
+fn sourced_rows(alloc: Global, outside: Outside) -> Result<Expr, AllocError>
+    ensures { IfOk result (λ e. expr_of e ≡ plain.Difference (small_of outside.height) (small_of outside.rows)) }
+{
+    let (height, rows) = (outside.height.expr(alloc)?, outside.rows.expr(alloc)?);
+    Expr::difference(alloc, height, rows)
+}
+
+/// Fills columns of the other rows, and then the last rows.
+fn later_fills(
+    alloc: Global,
+    s: FillSides,
+    outside: Outside,
+    before: Expr,
+    d: u8,
+) -> Result<Program, AllocError>
+    requires { d + 1 ≤ 255 }
+    ensures { IfOk result (λ p. program_of p ≡ list.Both
+        (plan.columns_fill (fill_sides_of s) (plain.Number 0)
+        (plain.Difference (small_of outside.height) (small_of outside.rows)) (expr_of before)
+        (small_of outside.columns) d)
+        (plan.rows_fill (fill_sides_of s) (plain.Difference (small_of outside.height) (small_of outside.rows))
+        (small_of outside.rows))) }
+{
+    let part = ColumnsExpr {
+        first: Expr::Number(0),
+        count: sourced_rows(alloc, outside)?,
+        before,
+        columns: outside.columns,
+    };
+    let columns = columns_fill(alloc, s, part, d)?;
+    let last = rows_fill(alloc, s, sourced_rows(alloc, outside)?, outside.rows)?;
+    Program::both(alloc, columns, last)
+}
+
+/// Fills the first rows, and then columns of the other rows.
+fn earlier_fills(
+    alloc: Global,
+    s: FillSides,
+    outside: Outside,
+    before: Expr,
+    d: u8,
+) -> Result<Program, AllocError>
+    requires { d + 1 ≤ 255 }
+    ensures { IfOk result (λ p. program_of p ≡ list.Both
+        (plan.rows_fill (fill_sides_of s) (plain.Number 0) (small_of outside.rows))
+        (plan.columns_fill (fill_sides_of s) (small_of outside.rows)
+        (plain.Difference (small_of outside.height) (small_of outside.rows)) (expr_of before)
+        (small_of outside.columns) d)) }
+{
+    let part = ColumnsExpr {
+        first: outside.rows.expr(alloc)?,
+        count: sourced_rows(alloc, outside)?,
+        before,
+        columns: outside.columns,
+    };
+    let columns = columns_fill(alloc, s, part, d)?;
+    let first = rows_fill(alloc, s, Expr::Number(0), outside.rows)?;
+    Program::both(alloc, first, columns)
+}
+
+/// Fills rows and columns without a source, in the order of the piece's rows.
+fn fills_in_order(
+    alloc: Global,
+    s: FillSides,
+    by: i64,
+    outside: Outside,
+    before: Expr,
+    d: u8,
+) -> Result<Program, AllocError>
+    requires { d + 1 ≤ 255 }
+    ensures { IfOk result (λ p. program_of p ≡ plan.fills_in_order (fill_sides_of s) by (small_of outside.height)
+        (small_of outside.rows) (expr_of before) (small_of outside.columns) d) }
+{
+    if by >= 0 {
+        later_fills(alloc, s, outside, before, d)
+    } else {
+        earlier_fills(alloc, s, outside, before, d)
+    }
+}
+
+/// How far a shift goes: rows down and columns right.
+#[derive(Clone, Copy)]
+struct Way {
+    dr: i64,
+    dc: i64,
+}
+
+/// Fills what has no source in a piece of a shift's result. Register `d` has how many rows have none, and the next one
+/// how many columns.
+fn shift_fills(
+    alloc: Global,
+    s: FillSides,
+    shape: Shape,
+    way: Way,
+    piece: PieceExpr,
+    d: u8,
+) -> Result<Program, AllocError>
+    requires rows { IsMove way.dr }
+    requires columns { IsMove way.dc }
+    requires low { d ≤ 32 }
+    ensures { IfOk result (λ p. program_of p ≡ plan.shift_fills (fill_sides_of s) shape way.dr way.dc (piece_of piece) d) }
+{
+    let rows = Span {
+        start: piece.r0,
+        n: piece.h,
+    };
+    let columns = Span {
+        start: piece.c0,
+        n: piece.w,
+    };
+    let outside = Outside {
+        height: piece.h,
+        rows: SmallExpr::Variable(d),
+        columns: SmallExpr::Variable(d + 1),
+    };
+    let before = bytes_before(alloc, s, way.dc, outside.columns)?;
+    let fills = fills_in_order(alloc, s, way.dr, outside, before, d + 2)?;
+    let outside_columns = outside_expr(alloc, shape.cols, way.dc, columns)?;
+    let named = Program::with(alloc, outside_columns, fills)?;
+    let outside_rows = outside_expr(alloc, shape.rows, way.dr, rows)?;
+    Program::with(alloc, outside_rows, named)
+}
+
+// ---- the fills of a leaf's piece
+
+/// The program that fills what has no source in a piece of a leaf, which only a shift leaves, where the first `d`
+/// registers are in use, at most 32: its list is that of the moves of the piece's fills, from the cell `buffer` on. The
+/// leaf's map fits its shape. The only error is that memory runs out.
+pub fn fill_program(
+    alloc: Global,
+    leaf: &Leaf,
+    piece: PieceExpr,
+    buffer: SmallExpr,
+    d: u8,
+) -> Result<Program, AllocError>
+    requires fits { FitsShape leaf.now.map leaf.now.shape }
+    requires low { d ≤ 32 }
+    ensures { IfOk result (λ p. program_of p ≡ plan.fill_program leaf.now (piece_of piece) (small_of buffer) d) }
+{
+    match leaf.map {
+        Mapping::Shift { dr, dc, fill } => {
+            let sides = FillSides {
+                elem: leaf.elem,
+                value: fill,
+                buffer,
+                width: piece.w,
+            };
+            shift_fills(alloc, sides, leaf.shape, Way { dr, dc }, piece, d)
+        }
+        _ => Ok(Program::Idle),
+    }
+}
