@@ -1,5 +1,5 @@
 //! Programs from their text to the bytes of their outputs.
-ghost use Rattle.std.specs.Prelude.{◌≡◌, ◌<◌, ◌≤◌, IsTrue, IfOk, All, length};
+ghost use Rattle.std.specs.Prelude.{◌≡◌, ◌<◌, ◌≤◌, ◌^◌, IsTrue, IfOk, All, length};
 ghost use Rattle.ven_base.specs.Store.{cells_alone, store_of, store_size, IsInRange};
 ghost use Rattle.spad_store.specs.Sizes.{most_cells};
 ghost use Rattle.shape_check.specs.Checked.{program_of, statement_of};
@@ -11,21 +11,24 @@ ghost use Rattle.venice_isa.specs.Whole.{HasCounts};
 ghost use Rattle.venice_isa.specs.Footprint.{HasFootprint};
 ghost use Rattle.venice_isa.specs.declared.issue.Issue.TheVariants.{Vector};
 ghost use Rattle.dma_engine.specs.Direction.{HasBytes, issue_of};
+ghost use Rattle.split_programs.specs.CodeRoom.{code_room};
 
 use array_meaning::eval;
 use array_syntax::parse;
 use dma_engine::{Channel, Directed, Reads, Writes};
 use dma_schedule::pipeline;
 use expr_split::{size_laws, split};
+use host_codegen::code;
 use lane_machine::Lanes;
 use overlap_law::disciplined;
 use pass_plan::{Split, need};
 use shape_check::{Checked, CheckedStmt, StmtKind, check};
 use spad_store::{MainMem, Spad, Unit};
+use split_programs::room_laws;
 use std::alloc::{AllocError, Global};
 use std::test::Fail;
 use ven_base::{Array, Arrays, Elem, Entry, Shape, wrap};
-use venice_isa::{DmaWork, Issue, VecWork, Version};
+use venice_isa::{DmaWork, Issue, VecWork, Version, issues};
 
 /// The checked program of a text.
 fn checked_program(alloc: Global, text: &str) -> Option<Checked> {
@@ -323,14 +326,32 @@ fn outputs_of(alloc: Global, program: &Checked, inputs: &Arrays) -> Result<Array
 fn split_of_program(alloc: Global, program: &Checked) -> Result<Split, AllocError>
     ensures small { IfOk result (λ split. AreSmall (passes_of split.passes.items)) }
     ensures sound { IfOk result (λ split. IsSound (split_of split)) }
+    ensures room { IfOk result (λ split. code_room (split_of split) < 2 ^ 32) }
 {
     size_laws();
+    room_laws();
     // What is known of every checked program shows in its statements.
     let _known = program.stmts.as_slice();
     Ok(split(alloc, program)?)
 }
 
-/// Whether a list is disciplined and leaves the outputs on 1 to 4 lanes.
+/// More steps than any of the codes here takes.
+const MOST_STEPS: u64 = 2_000_000_000;
+
+/// Whether the code of a split passes on this list.
+fn is_coded(alloc: Global, split: &Split, spad: u32, list: &[Issue]) -> Result<bool, AllocError>
+    requires sound { IsSound (split_of split.now) }
+    requires holds { need_of (split_of split.now).passes ≤ spad }
+    requires room { code_room (split_of split.now) < 2 ^ 32 }
+{
+    let code = code(alloc, split, spad)?;
+    match issues(alloc, &code, MOST_STEPS) {
+        Ok(passed) => Ok(passed.as_slice() == list),
+        Err(_) => Ok(false),
+    }
+}
+
+/// Whether a split's list is disciplined, is that of its code, and leaves the outputs on 1 to 4 lanes.
 fn leaves(
     alloc: Global,
     split: &Split,
@@ -340,11 +361,15 @@ fn leaves(
 ) -> Result<bool, Fail>
     requires sound { IsSound (split_of split.now) }
     requires holds { need_of (split_of split.now).passes ≤ spad }
+    requires room { code_room (split_of split.now) < 2 ^ 32 }
     requires some_cells { 0 < spad }
     requires few_cells { spad ≤ most_cells }
 {
     let list = pipeline(alloc, split, spad)?;
     if list.len() > 1_000_000 || disciplined(Version::Two, &list).is_err() {
+        return Ok(false);
+    }
+    if !is_coded(alloc, split, spad, &list)? {
         return Ok(false);
     }
     for lanes in 1..5 {
@@ -356,8 +381,8 @@ fn leaves(
     Ok(true)
 }
 
-/// Whether the program's list is disciplined and leaves its outputs on 1 to 4 lanes, in a scratchpad of its need and in
-/// one of twice its need.
+/// Whether the program's list is disciplined, is that of its code, and leaves its outputs on 1 to 4 lanes, in a
+/// scratchpad of its need and in one of twice its need.
 fn is_right(alloc: Global, text: &str) -> Result<bool, Fail> {
     let program = checked_program(alloc, text).ok_or("the text is a program")?;
     let inputs = inputs_of(alloc, &program).ok_or("the inputs are arrays")?;
@@ -374,7 +399,7 @@ fn is_right(alloc: Global, text: &str) -> Result<bool, Fail> {
     )
 }
 
-const PROGRAMS: [&str; 32] = [
+const PROGRAMS: [&str; 37] = [
     "input a u8[1,4]; input b u8[1,4]; output y = a + b;",
     "input a u8[1,3]; output y = select(a < 10, a, 0);",
     "input a i8[1,1]; output y = select(a < 10, a, 0);",
@@ -389,6 +414,7 @@ const PROGRAMS: [&str; 32] = [
     "input a u8[2,3]; output x = rotate(a,0,-1); output y = rotate(a,1,3); output z = rotate(a,1,2);",
     "input a u8[2,4]; output x = section(a,0,2,1,1,2,2); output y = section(a,1,1,1,0,4,1);",
     "input a u16[1,2]; output x = stretch(a,2,3); output y = stretch(a,3,1);",
+    "input a i16[2,3]; output x = transpose(a); output y = transpose(rotate(a,1,1));",
     "input a u8[2,3]; output y = select(shift(a,0,1,1), a, 3);",
     "input a u8[2,3]; output y = select(a > 90, shift(a,0,1,1), a);",
     "input a u8[2,3]; output y = select(a >= 90, a, shift(a,0,1,1));",
@@ -427,6 +453,14 @@ const PROGRAMS: [&str; 32] = [
         output t = i32(a);",
     "input a u32[2,3]; output p = u8(a + 1); output q = i8(a); output r = i16(a + 3); output s = u16(a); \
         output t = i32(a);",
+    "input a u8[2,3]; output p = i8(a + 1); output q = u16(a); output r = i16(a * 2); output s = u32(a); \
+        output t = i32(a);",
+    "input a u16[2,3]; output p = u8(a + 1); output q = i8(a); output r = i16(a * 2); output s = u32(a); \
+        output t = i32(a);",
+    "input a i16[2,3]; output p = u8(a + 1); output q = i8(a); output r = u16(a * 2); output s = u32(a); \
+        output t = i32(a);",
+    "input a i32[2,3]; output p = u8(a + 1); output q = i8(a); output r = u16(a * 2); output s = i16(a); \
+        output t = u32(a);",
 ];
 
 #[test]
@@ -434,5 +468,90 @@ fn lists_leave_the_outputs(rt: HostRuntime) -> Result<(), Fail> {
     for text in PROGRAMS {
         assert!(rt; is_right(rt.alloc(), text)?, "{text}");
     }
+    Ok(())
+}
+
+#[test]
+fn an_empty_list_leaves_no_outputs(rt: HostRuntime) -> Result<(), Fail> {
+    let alloc = rt.alloc();
+    let program = checked_program(alloc, PROGRAMS[0]).ok_or("the text is a program")?;
+    let inputs = inputs_of(alloc, &program).ok_or("the inputs are arrays")?;
+    let outputs = outputs_of(alloc, &program, &inputs)?;
+    let split = split_of_program(alloc, &program)?;
+    let memory = run(alloc, &split, &[], &inputs, 1, 7)?;
+    assert!(rt; !has_outputs(&memory, &split.table, &outputs));
+    Ok(())
+}
+
+// ---- the code of larger splits
+
+/// A picture made smooth, and the sum, the least and the greatest of its pixels.
+const SMOOTH: &str = "let w = u16(a); \
+    let y = u8((shift(w,-1,-1,0) + shift(w,-1,0,0)*2 + shift(w,-1,1,0) + shift(w,0,-1,0)*2 + w*4 + shift(w,0,1,0)*2 \
+        + shift(w,1,-1,0) + shift(w,1,0,0)*2 + shift(w,1,1,0)) >> 4); \
+    output total = sum(u32(y)); output low = minval(y); output high = maxval(y);";
+
+/// The text of that for a picture of the size that its input has.
+fn smooth(alloc: Global, input: &str) -> Result<String, AllocError> {
+    let mut text = String::from_str(alloc, input)?;
+    text.push_str(SMOOTH)?;
+    Ok(text)
+}
+
+/// The split of a text, where it has a need of at most so many bytes.
+fn split_within(alloc: Global, text: &str, spad: u32) -> Result<Split, Fail>
+    ensures sound { IfOk result (λ split. IsSound (split_of split)) }
+    ensures room { IfOk result (λ split. code_room (split_of split) < 2 ^ 32) }
+    ensures holds { IfOk result (λ split. need_of (split_of split).passes ≤ spad) }
+{
+    let program = checked_program(alloc, text).ok_or("the text is a program")?;
+    let split = split_of_program(alloc, &program)?;
+    if need(&split.passes) > u64::from(spad) {
+        return Err(Fail::from("the need is within the scratchpad"));
+    }
+    Ok(split)
+}
+
+/// Whether the code of a text passes on its pipelined list.
+fn passes_on_its_list(alloc: Global, text: &str, spad: u32) -> Result<bool, Fail> {
+    let split = split_within(alloc, text, spad)?;
+    let list = pipeline(alloc, &split, spad)?;
+    Ok(is_coded(alloc, &split, spad, &list)?)
+}
+
+#[test]
+fn codes_pass_on_their_lists(rt: HostRuntime) -> Result<(), Fail> {
+    let alloc = rt.alloc();
+    assert!(rt; passes_on_its_list(alloc, PROGRAMS[0], 65_536)?);
+    assert!(rt; passes_on_its_list(alloc, "input a u16[2,9]; output y = rowsum(a);", 48)?);
+    for (input, spad) in [
+        ("input a u8[1,2]; ", 65_536),
+        ("input a u8[240,320]; ", 16_384),
+        ("input a u8[60,80]; ", 44),
+    ] {
+        let text = smooth(alloc, input)?;
+        assert!(rt; passes_on_its_list(alloc, &text, spad)?, "{input}");
+    }
+    Ok(())
+}
+
+/// How many instructions the code of a text has.
+fn code_length(alloc: Global, text: &str, spad: u32) -> Result<u32, Fail> {
+    let split = split_within(alloc, text, spad)?;
+    Ok(code(alloc, &split, spad)?.len())
+}
+
+#[test]
+fn code_is_as_long_for_a_tile_as_for_ten_thousand(rt: HostRuntime) -> Result<(), Fail> {
+    let alloc = rt.alloc();
+    let one = "input a u8[1,4]; output y = shift(a,0,1,7) + a;";
+    let many = "input a u8[10000,4]; output y = shift(a,0,1,7) + a;";
+    assert_eq!(rt; code_length(alloc, one, 28)?, code_length(alloc, many, 28)?);
+    let small = smooth(alloc, "input a u8[60,80]; ")?;
+    let large = smooth(alloc, "input a u8[240,320]; ")?;
+    assert_eq!(rt;
+        code_length(alloc, &small, 44)?,
+        code_length(alloc, &large, 44)?
+    );
     Ok(())
 }
