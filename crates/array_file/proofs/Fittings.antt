@@ -9,7 +9,7 @@ use Rattle.ven_base.specs.Grid.{Grid}
 use Rattle.ven_base.specs.Pairs.{Pairs, names_of, array_named}
 use Rattle.array_file.specs.declared.fitting.FitFault.{FitFault}
 use Rattle.array_file.specs.declared.fitting.FitFault.TheVariants as answers
-use Rattle.array_file.specs.Fitting.{IsInput, HasInput, HasArray, Fits, Misfit, Missing, TypeWrong, ShapeWrong, Extra, IsMisfit, place_in, rank_of, answer_of, IsUnfit}
+use Rattle.array_file.specs.Fitting.{IsInput, ListsInput, HasArrayFor, Fits, Misfit, Missing, TypeWrong, ShapeWrong, Extra, IsMisfit, place_in, rank_of, answer_of, IsUnfit}
 use Rattle.array_file.specs.Matching.{IsInputNamed, NoneUpTo, FitsEntry, FitsUpTo, Refuses, NamesUpTo}
 use Rattle.array_file.proofs.Following.{none_some, some_is}
 
@@ -97,7 +97,7 @@ entry_misfit arrays table k entry (answers.ShapeWrong name) fits stands (input, 
     least (Extra j n) h same = omega arith
 entry_misfit arrays table k entry (answers.Extra name) fits stands refuses = absurd refuses
 
-pub extra_misfit : (arrays : Pairs) (table : List Entry) (k : ℕ) (name : List ℕ) → FitsUpTo arrays table (length table) → NamesUpTo arrays table k → slice_get (names_of arrays) k ≡ Some name → ¬ HasInput table name → IsUnfit arrays table (answers.Extra name)
+pub extra_misfit : (arrays : Pairs) (table : List Entry) (k : ℕ) (name : List ℕ) → FitsUpTo arrays table (length table) → NamesUpTo arrays table k → slice_get (names_of arrays) k ≡ Some name → ¬ ListsInput table name → IsUnfit arrays table (answers.Extra name)
 extra_misfit arrays table k name fits names stands none = record {
   misfit = Extra k name;
   first = record { here = (stands, none); first = λ other h. by other h (cases_lt (place_in table other) (length table + k)) (cases_lt (length table + k) (place_in table other)) };
@@ -140,15 +140,15 @@ more_fit arrays table i entry before stands here = more_of (λ e. FitsEntry arra
 pub more_none : (table : List Entry) (name : List ℕ) (i : ℕ) (entry : Entry) → NoneUpTo table name i → slice_get table i ≡ Some entry → ¬ IsInputNamed entry name → NoneUpTo table name (i + 1)
 more_none table name i entry before stands here = more_of (λ e. ¬ IsInputNamed e name) table i entry before stands here
 
-pub input_there : (table : List Entry) (name : List ℕ) (i : ℕ) (entry : Entry) → slice_get table i ≡ Some entry → IsInputNamed entry name → HasInput table name
+pub input_there : (table : List Entry) (name : List ℕ) (i : ℕ) (entry : Entry) → slice_get table i ≡ Some entry → IsInputNamed entry name → ListsInput table name
 input_there table name i entry stands (input, named) = record { k = i; entry = entry; is_input = record { stands = stands; input = input }; named = named }
 
-pub no_input : (table : List Entry) (name : List ℕ) → NoneUpTo table name (length table) → ¬ HasInput table name
+pub no_input : (table : List Entry) (name : List ℕ) → NoneUpTo table name (length table) → ¬ ListsInput table name
 no_input table name none h = none h.k h.entry (slice_get_within table h.k h.entry h.is_input.stands) h.is_input.stands (h.is_input.input, h.named)
 
-pub more_names : (arrays : Pairs) (table : List Entry) (i : ℕ) (name : List ℕ) → NamesUpTo arrays table i → slice_get (names_of arrays) i ≡ Some name → HasInput table name → NamesUpTo arrays table (i + 1)
+pub more_names : (arrays : Pairs) (table : List Entry) (i : ℕ) (name : List ℕ) → NamesUpTo arrays table i → slice_get (names_of arrays) i ≡ Some name → ListsInput table name → NamesUpTo arrays table (i + 1)
 more_names arrays table i name before stands here k other lt is = by (cases_lt k i)
   where
-    by : (k < i) ⊎ (i ≤ k) → HasInput table other
+    by : (k < i) ⊎ (i ≤ k) → ListsInput table other
     by (inl below) = before k other below is
-    by (inr above) = let same : i ≡ k = omega arith in subst (HasInput table) (some_is name other (sym (ap (slice_get (names_of arrays)) (sym same) ∙ stands) ∙ is)) here
+    by (inr above) = let same : i ≡ k = omega arith in subst (ListsInput table) (some_is name other (sym (ap (slice_get (names_of arrays)) (sym same) ∙ stands) ∙ is)) here

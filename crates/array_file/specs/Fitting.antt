@@ -13,21 +13,21 @@ pub record IsInput (table : List Entry) (k : ℕ) (entry : Entry) : Type 0 where
   pub input : entry.output ≡ false
 
 -- an input of the table has this name
-pub record HasInput (table : List Entry) (name : List ℕ) : Type 0 where
+pub record ListsInput (table : List Entry) (name : List ℕ) : Type 0 where
   pub k : ℕ
   pub entry : Entry
   pub is_input : IsInput table k entry
   pub named : entry.name ≡ name
 
 -- an array with the entry's name is there
-pub record HasArray (arrays : Pairs) (entry : Entry) (grid : Grid) : Type 0 where
+pub record HasArrayFor (arrays : Pairs) (entry : Entry) (grid : Grid) : Type 0 where
   pub is : array_named arrays entry.name ≡ Some grid
 
 -- each input of the table is there, with its type and its shape, and no other array
 pub record Fits (arrays : Pairs) (table : List Entry) : Type 0 where
   pub inputs : (k : ℕ) (entry : Entry) → IsInput table k entry
-      → (grid : Grid) × HasArray arrays entry grid × (grid.elem ≡ entry.elem) × (grid.shape ≡ entry.shape)
-  pub only : (name : List ℕ) → Contains (names_of arrays) name → HasInput table name
+      → (grid : Grid) × HasArrayFor arrays entry grid × (grid.elem ≡ entry.elem) × (grid.shape ≡ entry.shape)
+  pub only : (name : List ℕ) → Contains (names_of arrays) name → ListsInput table name
 
 -- why arrays don't fit a table: at one of its entries, or at one of the arrays
 pub data Misfit : Type 0 where
@@ -39,10 +39,10 @@ pub data Misfit : Type 0 where
 abbrev pub IsMisfit : Pairs → List Entry → Misfit → Type 0
 IsMisfit arrays table (Missing k entry) = IsInput table k entry × (array_named arrays entry.name ≡ None)
 IsMisfit arrays table (TypeWrong k entry) =
-    IsInput table k entry × ((grid : Grid) × HasArray arrays entry grid × (grid.elem ≢ entry.elem))
+    IsInput table k entry × ((grid : Grid) × HasArrayFor arrays entry grid × (grid.elem ≢ entry.elem))
 IsMisfit arrays table (ShapeWrong k entry) =
-    IsInput table k entry × ((grid : Grid) × HasArray arrays entry grid × (grid.shape ≢ entry.shape))
-IsMisfit arrays table (Extra k name) = (slice_get (names_of arrays) k ≡ Some name) × (¬ HasInput table name)
+    IsInput table k entry × ((grid : Grid) × HasArrayFor arrays entry grid × (grid.shape ≢ entry.shape))
+IsMisfit arrays table (Extra k name) = (slice_get (names_of arrays) k ≡ Some name) × (¬ ListsInput table name)
 
 -- the entries come in the table's order, and behind them the arrays in theirs
 abbrev pub place_in : List Entry → Misfit → ℕ

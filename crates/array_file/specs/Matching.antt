@@ -5,13 +5,13 @@ use Rattle.ven_base.specs.Grid.{Grid}
 use Rattle.ven_base.specs.Pairs.{Pairs, names_of, array_named}
 use Rattle.array_file.specs.declared.fitting.FitFault.{FitFault}
 use Rattle.array_file.specs.declared.fitting.FitFault.TheVariants as answers
-use Rattle.array_file.specs.Fitting.{IsInput, HasInput, HasArray}
+use Rattle.array_file.specs.Fitting.{IsInput, ListsInput, HasArrayFor}
 
 -- the entry is no input, or its array is there with its type and shape
 abbrev pub FitsEntry : Pairs → Entry → Type 0
 FitsEntry arrays entry =
     entry.output ≡ false
-    → (grid : Grid) × HasArray arrays entry grid × (grid.elem ≡ entry.elem) × (grid.shape ≡ entry.shape)
+    → (grid : Grid) × HasArrayFor arrays entry grid × (grid.elem ≡ entry.elem) × (grid.shape ≡ entry.shape)
 
 -- why an entry isn't fitted: the first of its causes
 abbrev pub Refuses : Pairs → Entry → FitFault → Type 0
@@ -19,10 +19,10 @@ Refuses arrays entry (answers.Missing name) =
     (entry.output ≡ false) × (name ≡ entry.name) × (array_named arrays entry.name ≡ None)
 Refuses arrays entry (answers.TypeWrong name) =
     (entry.output ≡ false) × (name ≡ entry.name)
-    × ((grid : Grid) × HasArray arrays entry grid × (grid.elem ≢ entry.elem))
+    × ((grid : Grid) × HasArrayFor arrays entry grid × (grid.elem ≢ entry.elem))
 Refuses arrays entry (answers.ShapeWrong name) =
     (entry.output ≡ false) × (name ≡ entry.name)
-    × ((grid : Grid) × HasArray arrays entry grid × (grid.elem ≡ entry.elem) × (grid.shape ≢ entry.shape))
+    × ((grid : Grid) × HasArrayFor arrays entry grid × (grid.elem ≡ entry.elem) × (grid.shape ≢ entry.shape))
 Refuses arrays entry (answers.Extra name) = ⊥
 
 -- the first entries of a table are fitted
@@ -32,7 +32,7 @@ FitsUpTo arrays table n = (k : ℕ) (entry : Entry) → k < n → slice_get tabl
 -- the first arrays are inputs of the table
 abbrev pub NamesUpTo : Pairs → List Entry → ℕ → Type 0
 NamesUpTo arrays table n =
-    (k : ℕ) (name : List ℕ) → k < n → slice_get (names_of arrays) k ≡ Some name → HasInput table name
+    (k : ℕ) (name : List ℕ) → k < n → slice_get (names_of arrays) k ≡ Some name → ListsInput table name
 
 -- the entry is an input of this name
 abbrev pub IsInputNamed : Entry → List ℕ → Type 0

@@ -1,7 +1,7 @@
 //! Whether arrays fit a table (docs/FORMATS.md, "Fitting").
 
 ghost use Rattle.std.specs.Prelude.{◌↔◌, length, IsTrue, MatchResult};
-ghost use Rattle.array_file.specs.Fitting.{Fits, IsUnfit, HasInput};
+ghost use Rattle.array_file.specs.Fitting.{Fits, IsUnfit, ListsInput};
 ghost use Rattle.array_file.specs.Matching.{IsInputNamed, FitsEntry, Refuses, FitsUpTo};
 
 use thiserror::Error;
@@ -33,7 +33,7 @@ fn is_input_named(entry: &Entry, name: &Name) -> bool
 
 /// Whether an input of the table has this name.
 fn has_input(table: &[Entry], name: &Name) -> bool
-    ensures { IsTrue result ↔ HasInput table.now name.now }
+    ensures { IsTrue result ↔ ListsInput table.now name.now }
 {
     for entry in table {
         if is_input_named(entry, name) {

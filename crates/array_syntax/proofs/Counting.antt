@@ -37,7 +37,7 @@ use Rattle.array_syntax.specs.Table as table
 use Rattle.array_syntax.specs.Table.{loosest, level, left_level, right_level, operands, numbers, takes_sign, call_of, map_of}
 use Rattle.array_syntax.specs.Faults as faults
 use Rattle.array_syntax.specs.Faults.{nodes_before, MayBegin, AtValue, InBrackets, BehindFlip, BehindNegate, BehindSign, InCall, EndsWith, EndsTooHigh, last_of, IsOperand, IsNode, Opens, IsNumberNext}
-use Rattle.array_syntax.specs.Limits.{nodes, nodes_in, nodes_of, height, most_height, most_nodes, most_statements}
+use Rattle.array_syntax.specs.Limits.{nodes, program_nodes, nodes_of, height, most_height, most_nodes, most_statements}
 use Rattle.array_syntax.specs.Tree.{tree_of}
 use Rattle.std.specs.Prelude.{max}
 use Rattle.array_syntax.specs.declared.machine.Phase.{Phase}
@@ -71,7 +71,7 @@ reduce_counts l e (frames.Binary at op a ∷ stack) = chosen_counts l at op a e 
 reduce_counts l e (frames.Bracket ∷ stack) = refl
 reduce_counts l e (frames.Call at callee before ∷ stack) = refl
 
-nodes_in_more : (done : List Stmt) (stmt : Stmt) → nodes_in (done ++ stmt ∷ []) ≡ nodes_in done + nodes_of stmt
+nodes_in_more : (done : List Stmt) (stmt : Stmt) → program_nodes (done ++ stmt ∷ []) ≡ program_nodes done + nodes_of stmt
 nodes_in_more [] stmt = omega arith
 nodes_in_more (first ∷ done) stmt = omega (arith, nodes_in_more done stmt)
 
@@ -138,7 +138,7 @@ acted_counts : (t : Token) (s : State) (n : ℕ) → nodes_read s ≡ n → act 
 acted_counts t (Have e stack) n is goes = acted_word t.at t.word e stack goes ∙ ap (and_one (is_sign t.word)) is
 acted_counts t _ n is goes = absurd (goes refl)
 
-input_counts : (part : Part) (word : Word) (at : ℕ) (done : List Stmt) → input part word at done ≢ Stuck → nodes_read (input part word at done) ≡ nodes_in done
+input_counts : (part : Part) (word : Word) (at : ℕ) (done : List Stmt) → input part word at done ≢ Stuck → nodes_read (input part word at done) ≡ program_nodes done
 input_counts parts.AfterWord (words.Name name) at done goes = refl
 input_counts (parts.AfterName name place) (words.Call (callees.Cast elem)) at done goes = refl
 input_counts (parts.AfterType h) words.OpenSquare at done goes = refl
@@ -149,16 +149,16 @@ input_counts (parts.AfterCols h shape_at rows cols) words.CloseSquare at done go
 input_counts (parts.AfterClose h shape_at rows cols) words.Semicolon at done goes = nodes_in_more done (stmts.Input h.name h.at h.elem (pos rows) (pos cols) shape_at) ∙ omega arith
 input_counts _ _ at done goes = absurd (goes refl)
 
-begin_counts : (word : Word) (done : List Stmt) → begin word done ≢ Stuck → nodes_read (begin word done) ≡ nodes_in done
+begin_counts : (word : Word) (done : List Stmt) → begin word done ≢ Stuck → nodes_read (begin word done) ≡ program_nodes done
 begin_counts words.Input done goes = refl
 begin_counts (words.Bind binding) done goes = refl
 begin_counts _ done goes = absurd (goes refl)
 
-word_counts : (word : Word) (at : ℕ) (done : List Stmt) (binding : Binding) → after_word word at done binding ≢ Stuck → nodes_read (after_word word at done binding) ≡ nodes_in done
+word_counts : (word : Word) (at : ℕ) (done : List Stmt) (binding : Binding) → after_word word at done binding ≢ Stuck → nodes_read (after_word word at done binding) ≡ program_nodes done
 word_counts (words.Name name) at done binding goes = refl
 word_counts _ at done binding goes = absurd (goes refl)
 
-name_counts : (word : Word) (done : List Stmt) (binding : Binding) (name : List ℕ) (at : ℕ) → after_name word done binding name at ≢ Stuck → nodes_read (after_name word done binding name at) ≡ nodes_in done
+name_counts : (word : Word) (done : List Stmt) (binding : Binding) (name : List ℕ) (at : ℕ) → after_name word done binding name at ≢ Stuck → nodes_read (after_name word done binding name at) ≡ program_nodes done
 name_counts words.Assign done binding name at goes = refl
 name_counts _ done binding name at goes = absurd (goes refl)
 

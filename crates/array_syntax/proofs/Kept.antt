@@ -37,7 +37,7 @@ use Rattle.array_syntax.specs.Table as table
 use Rattle.array_syntax.specs.Table.{loosest, level, left_level, right_level, operands, numbers, takes_sign, call_of, map_of}
 use Rattle.array_syntax.specs.Faults as faults
 use Rattle.array_syntax.specs.Faults.{nodes_before, MayBegin, AtValue, InBrackets, BehindFlip, BehindNegate, BehindSign, InCall, EndsWith, EndsTooHigh, last_of, IsOperand, IsNode, seen, last_at, BeginsStatement, Holds, TooHigh, TooManyStatements}
-use Rattle.array_syntax.specs.Limits.{nodes, nodes_in, nodes_of, height, most_height, most_nodes, most_statements, IsFreeName, IsNumber as IsWritten, IsSigned, IsWritable, KeepsHeight, KeepsStatement, KeepsLimits}
+use Rattle.array_syntax.specs.Limits.{nodes, program_nodes, nodes_of, height, most_height, most_nodes, most_statements, IsFreeName, IsNumber as IsWritten, IsSigned, IsWritable, KeepsHeight, KeepsStatement, KeepsLimits}
 use Rattle.array_syntax.specs.Tree.{tree_of}
 use Rattle.std.specs.Prelude.{max}
 use Rattle.array_syntax.specs.declared.machine.Phase.{Phase}
@@ -275,7 +275,7 @@ all_kept ts _ (Bound word_at at sign end binding name body before e q d de) f j 
     let own : List Token = token word_at (words.Bind binding) ∷ (token at (words.Name name) ∷ (token sign words.Assign ∷ tail)) in
     let g = fit_back before own f in
     let seam : before ++ own ≡ ((before ++ head_tokens) ++ body) ++ token end words.Semicolon ∷ [] = sym (append_assoc (before ++ head_tokens) body (token end words.Semicolon ∷ []) ∙ append_assoc before head_tokens tail) in
-    let low = low_value (before ++ head_tokens) body e loosest 0 (nodes_in q) (λ word. AtValue word_at at sign binding name before q word d) de (j.low ((before ++ head_tokens) ++ body) [] (token end words.Semicolon) seam) in
+    let low = low_value (before ++ head_tokens) body e loosest 0 (program_nodes q) (λ word. AtValue word_at at sign binding name before q word d) de (j.low ((before ++ head_tokens) ++ body) [] (token end words.Semicolon) seam) in
     kept_more q (bound binding name at e) (all_kept before q d (fit_front before own f) (judged_front before own j))
     (bound_kept binding name at e g.1.0 (record { writable = written loosest body e de (fit_front body (token end words.Semicolon ∷ []) g.1.1.1); low = low }))
 
@@ -295,7 +295,7 @@ all_of [] k i d lt = absurd (omega arith)
 all_of (stmt ∷ p) k zero d lt = k.0
 all_of (stmt ∷ p) k (suc i) d lt = all_of p k.1 i d (omega arith)
 
-pub keeps : (text : List ℕ) (to : ℕ) (tokens : List Token) (program : Program) → TokensTo language text 0 tokens to → IsFaultless text tokens → AreStatements tokens program.stmts → nodes_in program.stmts ≤ most_nodes → KeepsLimits program
+pub keeps : (text : List ℕ) (to : ℕ) (tokens : List Token) (program : Program) → TokensTo language text 0 tokens to → IsFaultless text tokens → AreStatements tokens program.stmts → program_nodes program.stmts ≤ most_nodes → KeepsLimits program
 keeps text to tokens program read clean d few =
     let j = judged text to tokens read clean in
     record { statements = few_statements tokens program.stmts d j; nodes = few; each = all_of program.stmts (all_kept tokens program.stmts d (tokens_fit text 0 to tokens read) j) }

@@ -36,7 +36,7 @@ use Rattle.array_syntax.specs.Reading.{State, Begin, AfterWord, AfterName, Want,
 use Rattle.array_syntax.specs.Table.{loosest, level, left_level, right_level, operands, numbers, takes_sign, call_of, map_of}
 use Rattle.array_syntax.specs.Faults as faults
 use Rattle.array_syntax.specs.Faults.{nodes_before, MayBegin, AtValue, InBrackets, BehindFlip, BehindNegate, BehindSign, InCall, EndsWith, EndsTooHigh, last_of, IsOperand, IsNode}
-use Rattle.array_syntax.specs.Limits.{nodes, nodes_in, nodes_of, height, most_height, most_nodes, most_statements}
+use Rattle.array_syntax.specs.Limits.{nodes, program_nodes, nodes_of, height, most_height, most_nodes, most_statements}
 use Rattle.array_syntax.specs.Tree.{tree_of}
 use Rattle.std.specs.Prelude.{max}
 use Rattle.array_syntax.specs.declared.machine.Phase.{Phase}
@@ -68,7 +68,7 @@ some_tokens l ts _ (Map _ at opening comma closing callee inner begun last e val
 pub stands_may : (stack : List Frame) (ts : List Token) (word : Word) → Stands stack ts → Follows stack word → MayBegin (room stack) (depth_of stack) (count_of stack) ts word
 stands_may [] ts word st f = absurd st
 stands_may (frames.Body done binding name at ∷ stack) ts word (bottom, before, word_at, sign, d, all) f =
-    subst (λ n. MayBegin loosest n (nodes_in done) ts word) (ap depth_of (sym bottom)) (subst (λ x. MayBegin loosest 0 (nodes_in done) x word) (sym all) (AtValue word_at at sign binding name before done word d))
+    subst (λ n. MayBegin loosest n (program_nodes done) ts word) (ap depth_of (sym bottom)) (subst (λ x. MayBegin loosest 0 (program_nodes done) x word) (sym all) (AtValue word_at at sign binding name before done word d))
 stands_may (frames.Prefix at prefixes.Negate ∷ stack) ts word (before, st, all) f =
     subst (λ x. MayBegin 0 (depth_of stack + 1) (count_of stack + 1) x word) (sym all) (BehindNegate (room stack) (depth_of stack) (count_of stack) at before word f (stands_may stack before minus st (no_number stack minus (λ h. h))))
 stands_may (frames.Prefix at prefixes.Flip ∷ stack) ts word (before, st, all) f =

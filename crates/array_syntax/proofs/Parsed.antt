@@ -23,7 +23,7 @@ use Rattle.array_syntax.specs.declared.word.Token.{Token}
 use Rattle.array_syntax.specs.declared.word.Word.{Word}
 use Rattle.array_syntax.specs.Faults.{last_of, IsAccepted, IsRefused, IsAnswered}
 use Rattle.array_syntax.specs.Grammar.{token}
-use Rattle.array_syntax.specs.Limits.{most_nodes, KeepsLimits, nodes_in}
+use Rattle.array_syntax.specs.Limits.{most_nodes, KeepsLimits, program_nodes}
 use Rattle.array_syntax.specs.Parsing.{StandsFrom, IsClean, HasRead, IsReady, IsParsing, Takes, Signed, Turned, Stopped, Blocked, Ended}
 use Rattle.array_syntax.specs.Reading.{State, Begin, Stuck, run, step, state_of, nodes_read, ending}
 use Rattle.array_syntax.specs.Steps.{Admitted, Advanced, begins_node, and_one, depth_in, IsTooHigh, IsStuck, IsDeep, IsCrowded, IsFull}
@@ -89,7 +89,7 @@ pub blocks : (text : List ℕ) (from count : ℕ) (s : State) (fault : TokenFaul
 blocks text from count s (token_faults.NotAscii at) answer r h = subst (IsAnswered text) (sym h) (ready_not_ascii text from count s at r)
 blocks text from count s (token_faults.Unexpected at) answer r h = stops text from count s at answer r h
 
-few_in : (s : State) (p : List Stmt) → s ≡ Begin p → ¬ IsFull s → nodes_in p ≤ most_nodes
+few_in : (s : State) (p : List Stmt) → s ≡ Begin p → ¬ IsFull s → program_nodes p ≤ most_nodes
 few_in s p is few = let low : ¬ IsFull (Begin p) = subst (λ x. ¬ IsFull x) is few in omega (arith, low)
 
 -- what is answered at the text's end

@@ -36,7 +36,7 @@ use Rattle.array_syntax.specs.Reading.{State, Begin, AfterWord, AfterName, Want,
 use Rattle.array_syntax.specs.Table.{loosest, level, left_level, right_level, operands, numbers, takes_sign, call_of, map_of}
 use Rattle.array_syntax.specs.Faults as faults
 use Rattle.array_syntax.specs.Faults.{nodes_before, MayBegin, AtValue, InBrackets, BehindFlip, BehindNegate, BehindSign, InCall, EndsWith, EndsTooHigh, last_of, IsOperand, IsNode, Opens, IsNumberNext, BeginsStatement, IsUnexpected, NoToken, NoEnd, NoSentence, IsNotAscii, IsLongName, IsLargeNumber, seen, last_at, Cause, NotAscii, NameTooLong, NumberTooLarge, TooHigh, Unexpected, TooManyOpen, TooManyStatements, TooManyNodes, rank_of, rank, Holds, SyntaxFault, IsFault, answer_of, Denotes, IsAccepted, IsRefused, IsAnswered}
-use Rattle.array_syntax.specs.Limits.{nodes, nodes_in, nodes_of, height, most_height, most_nodes, most_statements}
+use Rattle.array_syntax.specs.Limits.{nodes, program_nodes, nodes_of, height, most_height, most_nodes, most_statements}
 use Rattle.array_syntax.specs.Tree.{tree_of}
 use Rattle.std.specs.Prelude.{max}
 use Rattle.array_syntax.specs.declared.machine.Phase.{Phase}

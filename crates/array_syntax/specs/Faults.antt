@@ -24,7 +24,7 @@ use Rattle.array_syntax.specs.declared.word.Token.{Token}
 use Rattle.array_syntax.specs.declared.word.Word.{Word}
 use Rattle.array_syntax.specs.declared.word.Word.TheVariants as words
 use Rattle.array_syntax.specs.Grammar.{token, minus, IsNumber, IsExpr, IsBegun, AreStatements}
-use Rattle.array_syntax.specs.Limits.{most_statements, most_nodes, most_height, nodes, nodes_in, height}
+use Rattle.array_syntax.specs.Limits.{most_statements, most_nodes, most_height, nodes, program_nodes, height}
 use Rattle.array_syntax.specs.Table.{loosest, level, left_level, right_level}
 use Rattle.array_syntax.specs.Tree.{tree_of}
 use Rattle.array_syntax.specs.Words.{most_name_bytes, language}
@@ -44,7 +44,7 @@ nodes_before (earlier.Two a b) = nodes (tree_of a) + nodes (tree_of b)
 pub data MayBegin : ℕ → ℕ → ℕ → List Token → Word → Type 0 where
   AtValue : (word_at at sign : ℕ) (binding : Binding) (name : List ℕ) (before : List Token) (p : List Stmt)
       (word : Word) → AreStatements before p
-      → MayBegin loosest 0 (nodes_in p) (before ++ token word_at (words.Bind binding) ∷ token at (words.Name name)
+      → MayBegin loosest 0 (program_nodes p) (before ++ token word_at (words.Bind binding) ∷ token at (words.Name name)
       ∷ token sign words.Assign ∷ []) word
   InBrackets : (l depth count at : ℕ) (before : List Token) (word : Word) → MayBegin l depth count before words.Open
       → MayBegin loosest (depth + 1) count (before ++ token at words.Open ∷ []) word

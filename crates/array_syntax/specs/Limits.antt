@@ -106,12 +106,12 @@ nodes_of (stmts.Let name at value) = nodes (tree_of value)
 nodes_of (stmts.Output name at value) = nodes (tree_of value)
 
 -- the nodes of all statements
-abbrev pub nodes_in : List Stmt → ℕ
-nodes_in [] = 0
-nodes_in (stmt ∷ rest) = nodes_of stmt + nodes_in rest
+abbrev pub program_nodes : List Stmt → ℕ
+program_nodes [] = 0
+program_nodes (stmt ∷ rest) = nodes_of stmt + program_nodes rest
 
 -- a program keeps the language's limits
 pub record KeepsLimits (program : Program) : Type 0 where
   pub statements : length program.stmts ≤ most_statements
-  pub nodes : nodes_in program.stmts ≤ most_nodes
+  pub nodes : program_nodes program.stmts ≤ most_nodes
   pub each : All KeepsStatement program.stmts

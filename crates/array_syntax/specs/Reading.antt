@@ -30,7 +30,7 @@ use Rattle.array_syntax.specs.declared.word.Word.{Word}
 use Rattle.array_syntax.specs.declared.word.Word.TheVariants as words
 use Rattle.array_syntax.specs.Faults.{nodes_before}
 use Rattle.array_syntax.specs.Grammar.{expr, count, followed, bound}
-use Rattle.array_syntax.specs.Limits.{nodes, nodes_in}
+use Rattle.array_syntax.specs.Limits.{nodes, program_nodes}
 use Rattle.array_syntax.specs.Table.{loosest, level, left_level, right_level, operation, operands, numbers, takes_sign, call_of, map_of}
 use Rattle.array_syntax.specs.Tree.{tree_of}
 
@@ -236,7 +236,7 @@ depth_of (frame ∷ stack) = depth_of stack + 1
 -- how many nodes have their token before: those of open items
 abbrev pub count_of : List Frame → ℕ
 count_of [] = 0
-count_of (frames.Body done binding name at ∷ stack) = nodes_in done
+count_of (frames.Body done binding name at ∷ stack) = program_nodes done
 count_of (frames.Prefix at sign ∷ stack) = count_of stack + 1
 count_of (frames.Binary at op a ∷ stack) = count_of stack + nodes (tree_of a) + 1
 count_of (frames.Bracket ∷ stack) = count_of stack
@@ -244,10 +244,10 @@ count_of (frames.Call at callee before ∷ stack) = count_of stack + nodes_befor
 
 -- and those of a state
 abbrev pub nodes_read : State → ℕ
-nodes_read (Begin done) = nodes_in done
-nodes_read (Input done part) = nodes_in done
-nodes_read (AfterWord done binding) = nodes_in done
-nodes_read (AfterName done binding name at) = nodes_in done
+nodes_read (Begin done) = program_nodes done
+nodes_read (Input done part) = program_nodes done
+nodes_read (AfterWord done binding) = program_nodes done
+nodes_read (AfterName done binding name at) = program_nodes done
 nodes_read (Want stack) = count_of stack
 nodes_read (Minus at stack) = count_of stack + 1
 nodes_read (Called at callee stack) = count_of stack + 1

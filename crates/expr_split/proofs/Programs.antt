@@ -15,7 +15,7 @@ use Rattle.shape_check.specs.declared.typed.ArrayType.{ArrayType}
 use Rattle.shape_check.specs.Node.{Node, elem_of, shape_of}
 use Rattle.shape_check.specs.Statement.{Statement, Input, Let, Output, in_value}
 use Rattle.shape_check.specs.Rules.{IsTyped, IsTypedStatement, AreTyped, declared_type}
-use Rattle.shape_check.specs.Occurrences.{names_in, mapped_in, all_names, uses_of, is_mapped}
+use Rattle.shape_check.specs.Occurrences.{names_in, names_under_maps, all_names, uses_of, is_mapped}
 use Rattle.shape_check.specs.Checked.{nodes_of, node_work}
 use Rattle.shape_check.specs.Laws.{AreShapes}
 use Rattle.shape_check.proofs.Typing.{shape_of-IsExtent}
@@ -80,7 +80,7 @@ trees_push program done types names taken base s h typed =
     }
 
 pub maps_at : (program done rest : List Statement) (s : Statement) (e : Node) (types : List ArrayType) (names : List (TreeOver Leaf)) → program ≡ done ++ s ∷ rest → Trees program done types names → IsTyped types e
-    → in_value [] mapped_in s ≡ mapped_in e → MapsStand names e
+    → in_value [] names_under_maps s ≡ names_under_maps e → MapsStand names e
 maps_at program done rest s e types names is trees typed same =
     maps_stand types names e typed (λ k type found m. trees.whole k type found (mapped_here program done rest s k is (ap (list_any (λ j. j == k)) same ∙ m)))
 

@@ -11,7 +11,7 @@ use Rattle.ven_base.specs.Pairs.{Pairs}
 use Rattle.shape_check.specs.declared.typed.ArrayType.{ArrayType}
 use Rattle.shape_check.specs.Node.{Node, Name, Literal, One, Two, Cast, Select, Map, RowFold, Fold, elem_of, shape_of}
 use Rattle.shape_check.specs.Statement.{Statement, Input, Let, Output, in_value}
-use Rattle.shape_check.specs.Occurrences.{mapped_in, own_name, uses_of, is_mapped}
+use Rattle.shape_check.specs.Occurrences.{names_under_maps, own_name, uses_of, is_mapped}
 use Rattle.shape_check.specs.Rules.{IsTyped, IsTypedStatement, AreTyped, declared_type}
 use Rattle.shape_check.specs.Meaning.{no_grid, expr_at, array_of, input_array, statement_array, arrays_from, outputs_of, FitsStatement, FitInputs}
 use Rattle.shape_check.specs.Laws.{Stands}
@@ -73,32 +73,32 @@ whole_left types names xs ys h = λ k type found m. h k type found (any_left (λ
 whole_right : (types : List ArrayType) (names : List (TreeOver Leaf)) (xs ys : List ℕ) → AreWhole types names (xs ++ ys) → AreWhole types names ys
 whole_right types names xs ys h = λ k type found m. h k type found (any_right (λ j. j == k) xs ys m)
 
-pub maps_stand : (types : List ArrayType) (names : List (TreeOver Leaf)) (e : Node) → IsTyped types e → AreWhole types names (mapped_in e) → MapsStand names e
+pub maps_stand : (types : List ArrayType) (names : List (TreeOver Leaf)) (e : Node) → IsTyped types e → AreWhole types names (names_under_maps e) → MapsStand names e
 maps_stand types names (Name elem shape k) typed h = tt
 maps_stand types names (Literal elem shape value) typed h = tt
 maps_stand types names (One elem shape op a) typed h = maps_stand types names a typed.0 h
 maps_stand types names (Two elem shape op a b) typed h = (
-  maps_stand types names a typed.0 (whole_left types names (mapped_in a) (mapped_in b) h),
-  maps_stand types names b typed.1 (whole_right types names (mapped_in a) (mapped_in b) h),
+  maps_stand types names a typed.0 (whole_left types names (names_under_maps a) (names_under_maps b) h),
+  maps_stand types names b typed.1 (whole_right types names (names_under_maps a) (names_under_maps b) h),
 )
 maps_stand types names (Cast elem shape a) typed h = maps_stand types names a typed.0 h
 maps_stand types names (Select elem shape c x y) typed h =
-    let rest = whole_right types names (mapped_in c) (mapped_in x ++ mapped_in y) h in (
-      maps_stand types names c typed.0 (whole_left types names (mapped_in c) (mapped_in x ++ mapped_in y) h),
-      maps_stand types names x typed.1 (whole_left types names (mapped_in x) (mapped_in y) rest),
-      maps_stand types names y typed.2 (whole_right types names (mapped_in x) (mapped_in y) rest),
+    let rest = whole_right types names (names_under_maps c) (names_under_maps x ++ names_under_maps y) h in (
+      maps_stand types names c typed.0 (whole_left types names (names_under_maps c) (names_under_maps x ++ names_under_maps y) h),
+      maps_stand types names x typed.1 (whole_left types names (names_under_maps x) (names_under_maps y) rest),
+      maps_stand types names y typed.2 (whole_right types names (names_under_maps x) (names_under_maps y) rest),
     )
 maps_stand types names (Map elem shape mapping a) typed h = (
-  name_stands types names a typed.0 (whole_left types names (own_name a) (mapped_in a) h),
-  maps_stand types names a typed.0 (whole_right types names (own_name a) (mapped_in a) h),
+  name_stands types names a typed.0 (whole_left types names (own_name a) (names_under_maps a) h),
+  maps_stand types names a typed.0 (whole_right types names (own_name a) (names_under_maps a) h),
 )
 maps_stand types names (RowFold elem shape fold a) typed h = maps_stand types names a typed.0 h
 maps_stand types names (Fold elem shape fold a) typed h = maps_stand types names a typed.0 h
 
 -- what occurs in a statement occurs in the program
-pub mapped_here : (program done rest : List Statement) (s : Statement) (k : ℕ) → program ≡ done ++ s ∷ rest → list_any (λ j. j == k) (in_value [] mapped_in s) ≡ true → is_mapped program k ≡ true
+pub mapped_here : (program done rest : List Statement) (s : Statement) (k : ℕ) → program ≡ done ++ s ∷ rest → list_any (λ j. j == k) (in_value [] names_under_maps s) ≡ true → is_mapped program k ≡ true
 mapped_here program done rest s k is h =
-    let f = in_value [] mapped_in in
+    let f = in_value [] names_under_maps in
     let all : flat_map f program ≡ flat_map f done ++ (f s ++ flat_map f rest) = ap (flat_map f) is ∙ flat_map-append f done (s ∷ rest) in
     ap (list_any (λ j. j == k)) all ∙ any_right (λ j. j == k) (flat_map f done) (f s ++ flat_map f rest) (any_left (λ j. j == k) (f s) (flat_map f rest) h)
 
@@ -201,7 +201,7 @@ outputs_of-cons (Let name value) more a rest = refl
 outputs_of-cons (Output name value) more a rest = refl
 
 maps_here : (program done rest : List Statement) (s : Statement) (e : Node) (types : List ArrayType) (values : List Grid) (base : ℕ) (arrays : Arrays) (names : List (TreeOver Leaf)) → program ≡ done ++ s ∷ rest → State program done types values base arrays names → IsTyped types e
-    → in_value [] mapped_in s ≡ mapped_in e → MapsStand names e
+    → in_value [] names_under_maps s ≡ names_under_maps e → MapsStand names e
 maps_here program done rest s e types values base arrays names is state typed same =
     maps_stand types names e typed (λ k type found m. state.whole k type found (mapped_here program done rest s k is (ap (list_any (λ j. j == k)) same ∙ m)))
 

@@ -2,7 +2,7 @@
 ghost use Rattle.std.specs.Prelude.{◌≡◌, ◌++◌, ◌<◌, IfOk, OnOk, length};
 ghost use Rattle.std.specs.Option.{option_map};
 ghost use Rattle.shape_check.specs.Typed.{node_of};
-ghost use Rattle.shape_check.specs.Occurrences.{names_in, mapped_in, own_name, all_names as names_of_all, all_mapped as mapped_of_all};
+ghost use Rattle.shape_check.specs.Occurrences.{names_in, names_under_maps, own_name, all_names as names_of_all, all_mapped as mapped_of_all};
 ghost use Rattle.shape_check.specs.Checked.{statement_of, program_of};
 ghost use Rattle.expr_split.specs.Tally.{value_in, names_of, mapped_of, bumped, IsTally};
 
@@ -60,7 +60,7 @@ fn push_own_name(node: &Typed, names: &mut Vec<u32>) -> Result<(), AllocError>
 
 /// Appends the names that stand themselves as the operand of a map.
 fn push_mapped(node: &Typed, names: &mut Vec<u32>) -> Result<(), AllocError>
-    ensures { OnOk result (names.new.items ≡ names.old.items ++ mapped_in (node_of node.now)) }
+    ensures { OnOk result (names.new.items ≡ names.old.items ++ names_under_maps (node_of node.now)) }
 {
     match &node.kind {
         TypedKind::Name(_) => {}

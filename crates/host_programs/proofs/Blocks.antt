@@ -11,7 +11,7 @@ use Rattle.venice_isa.specs.declared.instr.Instr.{Instr}
 use Rattle.venice_isa.specs.declared.instr.Instr.TheVariants.{Halt, Li, Addi, Add, Sub, Mul, Div, Bnz, Blt, Jmp, Set, Vec, Dma, Rwait, Wwait, Vwait, Tag, Twait}
 use Rattle.venice_isa.specs.Host.{Host, start, with_number, sum_of, quotient_of, after_instr, deed_of, deed_at, after_at, deed, next, after_steps, passed_in, passed_by, is_halt, going_to, going_on}
 use Rattle.venice_isa.proofs.HostSteps.{issue_list_found}
-use Rattle.host_programs.specs.Contents.{Contents, standing, first_contents, left_by, issues_by, AreWords}
+use Rattle.host_programs.specs.Contents.{RegisterContents, standing, first_contents, left_by, issues_by, AreWords}
 use Rattle.host_programs.specs.Block.{Block, Empty, Do, Then, Unless, Turns, one_less, size, instrs_at, repeated, repeated_issues, repeated_steps, after, issues, steps, is_straight, sets, writes, is_sound}
 use Rattle.host_programs.specs.BlockLaws.{HasAt, RunsOn, KeepsOthers, IsItsCode, BlocksRun}
 
@@ -54,13 +54,13 @@ with_other f k v q e = ap (λ b. cond b v (f q)) e
 word_below : (n : ℕ) → n % 2 ^ 32 < 2 ^ 32
 word_below n = mod-lt n {m = 2 ^ 32} (omega arith)
 
-words_set : (c : Contents) (d v : ℕ) → AreWords c → v < 2 ^ 32 → (r : ℕ) → with_number d v c.register r < 2 ^ 32
+words_set : (c : RegisterContents) (d v : ℕ) → AreWords c → v < 2 ^ 32 → (r : ℕ) → with_number d v c.register r < 2 ^ 32
 words_set c d v all below r = cond_both (eqb r d) v (c.register r) (λ w. w < 2 ^ 32) (λ e. below) (λ e. all r)
 
 quotient_below : (x y : ℕ) → x < 2 ^ 32 → quotient_of x y < 2 ^ 32
 quotient_below x y below = cond_both (eqb y 0) (2 ^ 32 - 1) (x / y) (λ w. w < 2 ^ 32) (λ e. omega arith) (λ e. omega (arith, div-le_self x y, below))
 
-pub words_left : (i : Instr) (c : Contents) → is_straight i ≡ true → AreWords c → AreWords (left_by i c)
+pub words_left : (i : Instr) (c : RegisterContents) → is_straight i ≡ true → AreWords c → AreWords (left_by i c)
 words_left Halt c plain all = all
 words_left (Li d n) c plain all = words_set c d n all (ltb-true n (2 ^ 32) plain)
 words_left (Addi d a n) c plain all = words_set c d _ all (word_below (c.register a + n))
@@ -80,11 +80,11 @@ words_left Vwait c plain all = all
 words_left (Tag a) c plain all = all
 words_left (Twait a) c plain all = all
 
-words_repeated : (n : ℕ) (turn : Contents → Contents) (c : Contents) → ((c : Contents) → AreWords c → AreWords (turn c)) → AreWords c → AreWords (repeated n turn c)
+words_repeated : (n : ℕ) (turn : RegisterContents → RegisterContents) (c : RegisterContents) → ((c : RegisterContents) → AreWords c → AreWords (turn c)) → AreWords c → AreWords (repeated n turn c)
 words_repeated zero turn c kept all = all
 words_repeated (suc n) turn c kept all = words_repeated n turn (turn c) kept (kept c all)
 
-pub words_kept : (x : Block) (c : Contents) → is_sound x ≡ true → AreWords c → AreWords (after x c)
+pub words_kept : (x : Block) (c : RegisterContents) → is_sound x ≡ true → AreWords c → AreWords (after x c)
 words_kept Empty c sound all = all
 words_kept (Do i) c sound all = words_left i c sound all
 words_kept (Then x y) c sound all =
@@ -101,7 +101,7 @@ either_keeps : (b : Bool) (h g : Host) (r : ℕ) → h.register r ≡ g.register
 either_keeps true h g r e = e
 either_keeps false h g r e = refl
 
-instr_keeps : (i : Instr) (r : ℕ) (c : Contents) → sets i r ≡ false → (left_by i c).register r ≡ c.register r
+instr_keeps : (i : Instr) (r : ℕ) (c : RegisterContents) → sets i r ≡ false → (left_by i c).register r ≡ c.register r
 instr_keeps Halt r c e = refl
 instr_keeps (Li d n) r c e = with_other c.register d _ r e
 instr_keeps (Addi d a n) r c e = with_other c.register d _ r e
@@ -121,7 +121,7 @@ instr_keeps Vwait r c e = refl
 instr_keeps (Tag a) r c e = refl
 instr_keeps (Twait a) r c e = refl
 
-repeated_keeps : (n : ℕ) (turn : Contents → Contents) (r : ℕ) (c : Contents) → ((c : Contents) → (turn c).register r ≡ c.register r) → (repeated n turn c).register r ≡ c.register r
+repeated_keeps : (n : ℕ) (turn : RegisterContents → RegisterContents) (r : ℕ) (c : RegisterContents) → ((c : RegisterContents) → (turn c).register r ≡ c.register r) → (repeated n turn c).register r ≡ c.register r
 repeated_keeps zero turn r c kept = refl
 repeated_keeps (suc n) turn r c kept = repeated_keeps n turn r (turn c) kept ∙ kept c
 
@@ -158,35 +158,35 @@ module _ (code : List Instr) where
       ∙ append_assoc (passed_in code k h) (passed_in code l (after_steps code k h)) (here (after_steps code l (after_steps code k h)))
 
   -- from one place to another in k steps, which pass on xs
-  record Goes (c : Contents) (place k : ℕ) (xs : List Issue) (c' : Contents) (place' : ℕ) : Type 0 where
+  record Goes (c : RegisterContents) (place k : ℕ) (xs : List Issue) (c' : RegisterContents) (place' : ℕ) : Type 0 where
     arrives : after_steps code k (standing place c) ≡ standing place' c'
     passes : passed_in code k (standing place c) ≡ xs
 
-  stays : (c : Contents) (place : ℕ) → Goes c place 0 [] c place
+  stays : (c : RegisterContents) (place : ℕ) → Goes c place 0 [] c place
   stays c place = record { arrives = refl; passes = refl }
 
-  goes_on : {c c1 c2 : Contents} {p p1 p2 k l : ℕ} {xs ys : List Issue} → Goes c p k xs c1 p1 → Goes c1 p1 l ys c2 p2 → Goes c p (k + l) (xs ++ ys) c2 p2
+  goes_on : {c c1 c2 : RegisterContents} {p p1 p2 k l : ℕ} {xs ys : List Issue} → Goes c p k xs c1 p1 → Goes c1 p1 l ys c2 p2 → Goes c p (k + l) (xs ++ ys) c2 p2
   goes_on {c} {c1} {c2} {p} {p1} {p2} {k} {l} {xs} {ys} first second = record {
     arrives = steps_after l k (standing p c) ∙ ap (λ h. after_steps code l h) first.arrives ∙ second.arrives;
     passes = passed_after l k (standing p c) ∙ ap (λ zs. zs ++ passed_in code l (after_steps code k (standing p c))) first.passes
         ∙ ap (λ h. xs ++ passed_in code l h) first.arrives ∙ ap (λ zs. xs ++ zs) second.passes;
   }
 
-  ends_at : {c c1 : Contents} {p p1 p2 k : ℕ} {xs : List Issue} → p1 ≡ p2 → Goes c p k xs c1 p1 → Goes c p k xs c1 p2
+  ends_at : {c c1 : RegisterContents} {p p1 p2 k : ℕ} {xs : List Issue} → p1 ≡ p2 → Goes c p k xs c1 p1 → Goes c p k xs c1 p2
   ends_at {c} {c1} {p} {p1} {p2} {k} {xs} e goes = subst (λ q. Goes c p k xs c1 q) e goes
 
-  takes : {c c1 : Contents} {p p1 k l : ℕ} {xs : List Issue} → k ≡ l → Goes c p k xs c1 p1 → Goes c p l xs c1 p1
+  takes : {c c1 : RegisterContents} {p p1 k l : ℕ} {xs : List Issue} → k ≡ l → Goes c p k xs c1 p1 → Goes c p l xs c1 p1
   takes {c} {c1} {p} {p1} {k} {l} {xs} e goes = subst (λ k. Goes c p k xs c1 p1) e goes
 
   -- one instruction
-  one : (i : Instr) (c c' : Contents) (place place' : ℕ) (xs : List Issue) → slice_get code place ≡ Some i → after_instr i (standing place c) ≡ standing place' c' → passed_by (deed_of i (standing place c)) ≡ xs
+  one : (i : Instr) (c c' : RegisterContents) (place place' : ℕ) (xs : List Issue) → slice_get code place ≡ Some i → after_instr i (standing place c) ≡ standing place' c' → passed_by (deed_of i (standing place c)) ≡ xs
       → Goes c place 1 xs c' place'
   one i c c' place place' xs at arrives passes = record {
     arrives = ap (λ o. after_at o (standing place c)) at ∙ arrives;
     passes = ap (λ o. passed_by (deed_at o (standing place c))) at ∙ passes;
   }
 
-  straight : (i : Instr) (c : Contents) (place : ℕ) → slice_get code place ≡ Some i → is_straight i ≡ true → Goes c place 1 (issues_by i c) (left_by i c) (place + 1)
+  straight : (i : Instr) (c : RegisterContents) (place : ℕ) → slice_get code place ≡ Some i → is_straight i ≡ true → Goes c place 1 (issues_by i c) (left_by i c) (place + 1)
   straight i c place at plain = one i c (left_by i c) place (place + 1) (issues_by i c) at (goes_next i plain) (says i)
     where
       goes_next : (i : Instr) → is_straight i ≡ true → after_instr i (standing place c) ≡ standing (place + 1) (left_by i c)
@@ -203,14 +203,14 @@ module _ (code : List Instr) where
       says _ = refl
 
   -- a jump to one of two places
-  jumps : (b : Bool) (i : Instr) (c : Contents) (place to other : ℕ) → slice_get code place ≡ Some i → after_instr i (standing place c) ≡ cond b (standing to c) (standing other c) → passed_by (deed_of i (standing place c)) ≡ []
+  jumps : (b : Bool) (i : Instr) (c : RegisterContents) (place to other : ℕ) → slice_get code place ≡ Some i → after_instr i (standing place c) ≡ cond b (standing to c) (standing other c) → passed_by (deed_of i (standing place c)) ≡ []
       → Goes c place 1 [] c (cond b to other)
   jumps true i c place to other at arrives passes = one i c c place to [] at arrives passes
   jumps false i c place to other at arrives passes = one i c c place other [] at arrives passes
 
   -- from the test at a loop's end
-  turns_run : (n k place : ℕ) (x : Block) (c : Contents) → c.register k ≡ n → writes x k ≡ false → is_sound x ≡ true → AreWords c
-      → ((c : Contents) → AreWords c → Goes c (place + 1) (steps x c) (issues x c) (after x c) (place + 1 + size x))
+  turns_run : (n k place : ℕ) (x : Block) (c : RegisterContents) → c.register k ≡ n → writes x k ≡ false → is_sound x ≡ true → AreWords c
+      → ((c : RegisterContents) → AreWords c → Goes c (place + 1) (steps x c) (issues x c) (after x c) (place + 1 + size x))
       → slice_get code (place + 1 + size x) ≡ Some (one_less k) → slice_get code (place + 1 + size x + 1) ≡ Some (Bnz k (place + 1))
       → Goes c (place + 1 + size x + 1) (1 + repeated_steps n (λ c. left_by (one_less k) (after x c)) (steps x) c)
       (repeated_issues n (λ c. left_by (one_less k) (after x c)) (issues x) c)
@@ -226,7 +226,7 @@ module _ (code : List Instr) where
       let rest = turns_run n k place x c' less free sound (words_left (one_less k) (after x c) refl (words_kept x c sound all)) body back test in
       takes (omega arith) (goes_on jump (goes_on (body c all) (goes_on (straight (one_less k) (after x c) (place + 1 + size x) back refl) rest)))
 
-  runs : (x : Block) (place : ℕ) (c : Contents) → is_sound x ≡ true → AreWords c → HasAt code place (instrs_at x place) → Goes c place (steps x c) (issues x c) (after x c) (place + size x)
+  runs : (x : Block) (place : ℕ) (c : RegisterContents) → is_sound x ≡ true → AreWords c → HasAt code place (instrs_at x place) → Goes c place (steps x c) (issues x c) (after x c) (place + size x)
   runs Empty place c sound all has = ends_at (omega arith) (stays c place)
   runs (Do i) place c sound all has = straight i c place has.0 sound
   runs (Then x y) place c sound all has =

@@ -8,7 +8,7 @@ use Rattle.venice_isa.specs.declared.issue.Issue.{Issue}
 use Rattle.venice_isa.specs.declared.instr.Instr.{Instr}
 use Rattle.venice_isa.specs.declared.instr.Instr.TheVariants.{Addi, Add, Sub, Mul, Div}
 use Rattle.venice_isa.specs.Host.{with_number, sum_of, difference_of, product_of, quotient_of}
-use Rattle.host_programs.specs.Contents.{Contents, left_by, issues_by, AreWords}
+use Rattle.host_programs.specs.Contents.{RegisterContents, left_by, issues_by, AreWords}
 use Rattle.host_programs.specs.Block.{Block, Empty, Do, Then, Unless, size, after, issues, steps, is_sound}
 use Rattle.host_programs.specs.Expr.{Expr, Number, Variable, Offset, Sum, Difference, Product, Quotient, Remainder, IfLess, value, word, remainder_of, machine_value, Fits, is_below, unless_variable, register_of, put, bring, cost, bring_cost}
 use Rattle.host_programs.specs.ExprLaws.{Puts, Agree, ExprsRun}
@@ -125,7 +125,7 @@ pub bring_cheaper : (e : Expr) (d : ℕ) (f : ℕ → ℕ) → bring_cost e f �
 bring_cheaper e d f = operand_cheap e (cost e f) (put e d) (cheaper e d f)
 
 -- an operand's number stands in its register
-brings_of : (e : Expr) (d : ℕ) (c : Contents) → AreWords c → Puts (put e d) d d (machine_value e c.register) (cost e c.register) c → Puts (bring e d) (register_of e d) d (machine_value e c.register) (bring_cost e c.register) c
+brings_of : (e : Expr) (d : ℕ) (c : RegisterContents) → AreWords c → Puts (put e d) d d (machine_value e c.register) (cost e c.register) c → Puts (bring e d) (register_of e d) d (machine_value e c.register) (bring_cost e c.register) c
 brings_of (Variable r) d c all p = record { puts = sym (mod-eq_of_lt (all r)); keeps = λ r lt. refl; parameters = refl; tag = refl; silent = refl; takes = refl }
 brings_of _ d c all p = p
 
@@ -133,22 +133,22 @@ brings_of _ d c all p = p
 
 -- the end of an expression's code: it works on registers s and t
 record Joins (tail : Block) (s t d : ℕ) (joined : ℕ → ℕ → ℕ) (count : ℕ) : Type 0 where
-  gives : (c : Contents) → (after tail c).register d ≡ joined (c.register s) (c.register t)
-  keeps : (c : Contents) (r : ℕ) → r < d → (after tail c).register r ≡ c.register r
-  parameters : (c : Contents) → (after tail c).parameter ≡ c.parameter
-  tag : (c : Contents) → (after tail c).tag ≡ c.tag
-  silent : (c : Contents) → issues tail c ≡ []
-  takes : (c : Contents) → steps tail c ≡ count
+  gives : (c : RegisterContents) → (after tail c).register d ≡ joined (c.register s) (c.register t)
+  keeps : (c : RegisterContents) (r : ℕ) → r < d → (after tail c).register r ≡ c.register r
+  parameters : (c : RegisterContents) → (after tail c).parameter ≡ c.parameter
+  tag : (c : RegisterContents) → (after tail c).tag ≡ c.tag
+  silent : (c : RegisterContents) → issues tail c ≡ []
+  takes : (c : RegisterContents) → steps tail c ≡ count
 
-abbrev with_register : ℕ → ℕ → Contents → Contents
+abbrev with_register : ℕ → ℕ → RegisterContents → RegisterContents
 with_register d v c = record { register = with_number d v c.register; parameter = c.parameter; tag = c.tag }
 
-joins_one : (i : Instr) (s t d : ℕ) (joined : ℕ → ℕ → ℕ) → ((c : Contents) → left_by i c ≡ with_register d (joined (c.register s) (c.register t)) c) → ((c : Contents) → issues_by i c ≡ []) → Joins (Do i) s t d joined 1
+joins_one : (i : Instr) (s t d : ℕ) (joined : ℕ → ℕ → ℕ) → ((c : RegisterContents) → left_by i c ≡ with_register d (joined (c.register s) (c.register t)) c) → ((c : RegisterContents) → issues_by i c ≡ []) → Joins (Do i) s t d joined 1
 joins_one i s t d joined is silent = record {
-  gives = λ c. ap (λ (g : Contents). g.register d) (is c) ∙ with_same c.register d _;
-  keeps = λ c r below. ap (λ (g : Contents). g.register r) (is c) ∙ with_other c.register d _ r (ne_eqb r d (λ e. omega (arith, e, below)));
-  parameters = λ c. ap (λ (g : Contents). g.parameter) (is c);
-  tag = λ c. ap (λ (g : Contents). g.tag) (is c);
+  gives = λ c. ap (λ (g : RegisterContents). g.register d) (is c) ∙ with_same c.register d _;
+  keeps = λ c r below. ap (λ (g : RegisterContents). g.register r) (is c) ∙ with_other c.register d _ r (ne_eqb r d (λ e. omega (arith, e, below)));
+  parameters = λ c. ap (λ (g : RegisterContents). g.parameter) (is c);
+  tag = λ c. ap (λ (g : RegisterContents). g.tag) (is c);
   silent = silent;
   takes = λ c. refl;
 }
@@ -178,7 +178,7 @@ joins_rest s t d low_s low_t = record {
   takes = λ c. refl;
 }
 
-two : (x y tail : Block) (s t d u v k l : ℕ) (c : Contents) (joined : ℕ → ℕ → ℕ) (count : ℕ) → s ≤ d → Joins tail s t d joined count → Puts x s d u k c → Puts y t (d + 1) v l (after x c)
+two : (x y tail : Block) (s t d u v k l : ℕ) (c : RegisterContents) (joined : ℕ → ℕ → ℕ) (count : ℕ) → s ≤ d → Joins tail s t d joined count → Puts x s d u k c → Puts y t (d + 1) v l (after x c)
     → Puts (Then x (Then y tail)) d d (joined u v) (k + (l + count)) c
 two x y tail s t d u v k l c joined count low joins first second =
     let c1 = after x c in
@@ -193,7 +193,7 @@ two x y tail s t d u v k l c joined count low joins first second =
     }
 
 -- one operand, and a number that is added
-offset : (x : Block) (s d u k n : ℕ) (c : Contents) → Puts x s d u k c → Puts (Then x (Do (Addi d s n))) d d (sum_of u n) (k + 1) c
+offset : (x : Block) (s d u k n : ℕ) (c : RegisterContents) → Puts x s d u k c → Puts (Then x (Do (Addi d s n))) d d (sum_of u n) (k + 1) c
 offset x s d u k n c first =
     let c1 = after x c in
     record {
@@ -206,7 +206,7 @@ offset x s d u k n c first =
     }
 
 -- the number in a later state whose lower registers are the same
-later : (e : Expr) (x : Block) (s d n : ℕ) (c g : Contents) → Agree d c.register g.register → is_below e d ≡ true
+later : (e : Expr) (x : Block) (s d n : ℕ) (c g : RegisterContents) → Agree d c.register g.register → is_below e d ≡ true
     → Puts x s n (machine_value e c.register) (bring_cost e c.register) c → Puts x s n (machine_value e g.register) (bring_cost e g.register) c
 later e x s d n c g same below p = record {
   puts = p.puts ∙ value_same e d c.register g.register same below;
@@ -217,7 +217,7 @@ later e x s d n c g same below p = record {
   takes = p.takes ∙ bring_cost_same e d c.register g.register same below;
 }
 
-later_put : (e : Expr) (x : Block) (s d n : ℕ) (c g : Contents) → Agree d c.register g.register → is_below e d ≡ true
+later_put : (e : Expr) (x : Block) (s d n : ℕ) (c g : RegisterContents) → Agree d c.register g.register → is_below e d ≡ true
     → Puts x s n (machine_value e c.register) (cost e c.register) c → Puts x s n (machine_value e g.register) (cost e g.register) c
 later_put e x s d n c g same below p = record {
   puts = p.puts ∙ value_same e d c.register g.register same below;
@@ -232,12 +232,12 @@ quiet : {xs ys zs ws : List Issue} → xs ≡ [] → ys ≡ [] → zs ≡ [] →
 quiet {xs} {ys} {zs} {ws} e1 e2 e3 e4 = ap (λ xs. xs ++ (ys ++ (zs ++ ws))) e1 ∙ ap (λ ys. ys ++ (zs ++ ws)) e2 ∙ ap (λ zs. zs ++ ws) e3 ∙ e4
 
 -- x stands in d, and y comes in its place unless u is below v
-choice : (x a b y : Block) (s t d vx u v vy kx ka kb ky : ℕ) (c : Contents) → s ≤ d + 1 → Puts x d d vx kx c → Puts a s (d + 1) u ka (after x c) → Puts b t (d + 2) v kb (after a (after x c))
+choice : (x a b y : Block) (s t d vx u v vy kx ka kb ky : ℕ) (c : RegisterContents) → s ≤ d + 1 → Puts x d d vx kx c → Puts a s (d + 1) u ka (after x c) → Puts b t (d + 2) v kb (after a (after x c))
     → Puts y d d vy ky (after b (after a (after x c)))
     → Puts (Then x (Then a (Then b (Unless s t y)))) d d (cond (ltb u v) vx vy) (kx + (ka + (kb + (1 + cond (ltb u v) 0 ky)))) c
 choice x a b y s t d vx u v vy kx ka kb ky c low px pa pb py = made (ltb u v) (ap (λ w. ltb w (c3.register t)) (pb.keeps s (omega (arith, low)) ∙ pa.puts) ∙ ap (λ w. ltb u w) pb.puts)
   where
-    c3 : Contents
+    c3 : RegisterContents
     c3 = after b (after a (after x c))
 
     made : (q : Bool) → ltb (c3.register s) (c3.register t) ≡ q → Puts (Then x (Then a (Then b (Unless s t y)))) d d (cond q vx vy) (kx + (ka + (kb + (1 + cond q 0 ky)))) c
@@ -246,10 +246,10 @@ choice x a b y s t d vx u v vy kx ka kb ky c low px pa pb py = made (ltb u v) (a
         let last : cond (ltb (c3.register s) (c3.register t)) [] (issues y c3) ≡ [] = cond-true _ _ _ e in
         let count : cond (ltb (c3.register s) (c3.register t)) 0 (steps y c3) ≡ 0 = cond-true _ _ _ e in
         record {
-          puts = ap (λ (g : Contents). g.register d) ends ∙ pb.keeps d (omega arith) ∙ pa.keeps d (omega arith) ∙ px.puts;
-          keeps = λ r lt. ap (λ (g : Contents). g.register r) ends ∙ pb.keeps r (omega (arith, lt)) ∙ pa.keeps r (omega (arith, lt)) ∙ px.keeps r lt;
-          parameters = ap (λ (g : Contents). g.parameter) ends ∙ pb.parameters ∙ pa.parameters ∙ px.parameters;
-          tag = ap (λ (g : Contents). g.tag) ends ∙ pb.tag ∙ pa.tag ∙ px.tag;
+          puts = ap (λ (g : RegisterContents). g.register d) ends ∙ pb.keeps d (omega arith) ∙ pa.keeps d (omega arith) ∙ px.puts;
+          keeps = λ r lt. ap (λ (g : RegisterContents). g.register r) ends ∙ pb.keeps r (omega (arith, lt)) ∙ pa.keeps r (omega (arith, lt)) ∙ px.keeps r lt;
+          parameters = ap (λ (g : RegisterContents). g.parameter) ends ∙ pb.parameters ∙ pa.parameters ∙ px.parameters;
+          tag = ap (λ (g : RegisterContents). g.tag) ends ∙ pb.tag ∙ pa.tag ∙ px.tag;
           silent = quiet px.silent pa.silent pb.silent last;
           takes = omega (arith, px.takes, pa.takes, pb.takes, count);
         }
@@ -258,15 +258,15 @@ choice x a b y s t d vx u v vy kx ka kb ky c low px pa pb py = made (ltb u v) (a
         let last : cond (ltb (c3.register s) (c3.register t)) [] (issues y c3) ≡ issues y c3 = cond-false _ _ _ e in
         let count : cond (ltb (c3.register s) (c3.register t)) 0 (steps y c3) ≡ steps y c3 = cond-false _ _ _ e in
         record {
-          puts = ap (λ (g : Contents). g.register d) ends ∙ py.puts;
-          keeps = λ r lt. ap (λ (g : Contents). g.register r) ends ∙ py.keeps r lt ∙ pb.keeps r (omega (arith, lt)) ∙ pa.keeps r (omega (arith, lt)) ∙ px.keeps r lt;
-          parameters = ap (λ (g : Contents). g.parameter) ends ∙ py.parameters ∙ pb.parameters ∙ pa.parameters ∙ px.parameters;
-          tag = ap (λ (g : Contents). g.tag) ends ∙ py.tag ∙ pb.tag ∙ pa.tag ∙ px.tag;
+          puts = ap (λ (g : RegisterContents). g.register d) ends ∙ py.puts;
+          keeps = λ r lt. ap (λ (g : RegisterContents). g.register r) ends ∙ py.keeps r lt ∙ pb.keeps r (omega (arith, lt)) ∙ pa.keeps r (omega (arith, lt)) ∙ px.keeps r lt;
+          parameters = ap (λ (g : RegisterContents). g.parameter) ends ∙ py.parameters ∙ pb.parameters ∙ pa.parameters ∙ px.parameters;
+          tag = ap (λ (g : RegisterContents). g.tag) ends ∙ py.tag ∙ pb.tag ∙ pa.tag ∙ px.tag;
           silent = quiet px.silent pa.silent pb.silent (last ∙ py.silent);
           takes = omega (arith, px.takes, pa.takes, pb.takes, count, py.takes);
         }
 
-pub puts_value : (e : Expr) (d : ℕ) (c : Contents) → is_below e d ≡ true → AreWords c → Puts (put e d) d d (machine_value e c.register) (cost e c.register) c
+pub puts_value : (e : Expr) (d : ℕ) (c : RegisterContents) → is_below e d ≡ true → AreWords c → Puts (put e d) d d (machine_value e c.register) (cost e c.register) c
 puts_value (Number n) d c below all = record { puts = with_same c.register d _; keeps = λ r lt. other c.register d _ r (λ e. omega (arith, e, lt)); parameters = refl; tag = refl; silent = refl; takes = refl }
 puts_value (Variable r) d c below all =
     let e : sum_of (c.register r) 0 ≡ word (c.register r) = ap word (omega arith) in
@@ -338,7 +338,7 @@ puts_value (IfLess a b x y) d c below all =
     (later a (bring a (d + 1)) (register_of a (d + 1)) d (d + 1) c1 c same1 q.0 pa) (later b (bring b (d + 2)) (register_of b (d + 2)) d (d + 2) c2 c same2 q.1 pb)
     (later_put y (put y d) d d d c3 c same3 s.1 py)
 
-pub brings_value : (e : Expr) (d : ℕ) (c : Contents) → is_below e d ≡ true → AreWords c → Puts (bring e d) (register_of e d) d (machine_value e c.register) (bring_cost e c.register) c
+pub brings_value : (e : Expr) (d : ℕ) (c : RegisterContents) → is_below e d ≡ true → AreWords c → Puts (bring e d) (register_of e d) d (machine_value e c.register) (bring_cost e c.register) c
 brings_value e d c below all = brings_of e d c all (puts_value e d c below all)
 
 -- ---- no step loses what the value needs

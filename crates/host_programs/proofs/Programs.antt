@@ -9,7 +9,7 @@ use Rattle.venice_isa.specs.declared.issue.Issue.TheVariants.{Vector, RWait, WWa
 use Rattle.venice_isa.specs.declared.instr.Instr.{Instr}
 use Rattle.venice_isa.specs.declared.instr.Instr.TheVariants.{Li, Addi, Set, Vec, Dma, Rwait, Wwait, Tag, Twait}
 use Rattle.venice_isa.specs.Host.{with_number, sum_of, vector_work, transfer}
-use Rattle.host_programs.specs.Contents.{Contents, standing, first_contents, left_by, issues_by, AreWords}
+use Rattle.host_programs.specs.Contents.{RegisterContents, standing, first_contents, left_by, issues_by, AreWords}
 use Rattle.host_programs.specs.Block.{Block, Empty, Do, Then, Unless, Turns, one_less, repeated_issues, repeated_steps, after, issues, steps, writes, is_sound}
 use Rattle.host_programs.specs.Expr.{Expr, Number, Variable, Offset, Sum, Difference, Product, Quotient, Remainder, IfLess, value, word, machine_value, is_below, unless_variable, register_of, put, bring, cost, bring_cost}
 use Rattle.host_programs.specs.ExprLaws.{Puts, Agree}
@@ -128,7 +128,7 @@ gives_then {x} {y} {d} {f} {xs} {ys} {k} {l} sound first second = record {
   takes = λ c all same. omega (arith, first.takes c all same, second.takes (after x c) (words_kept x c sound all) (still c same));
 }
   where
-    still : (c : Contents) → Agree d c.register f → Agree d (after x c).register f
+    still : (c : RegisterContents) → Agree d c.register f → Agree d (after x c).register f
     still c same = record { at = λ r lt. first.keeps c r lt ∙ same.at r lt }
 
 -- a number in register d, and what is done with it
@@ -140,25 +140,25 @@ with_put e d m f y ys l le below rest = record {
   takes = λ c all same. omega (arith, (puts_value e d c below all).takes, cost_same e d c.register f same below, rest.takes (after (put e d) c) (words_kept (put e d) c (put_sound e d) all) (named c all same));
 }
   where
-    named : (c : Contents) → AreWords c → Agree d c.register f → Agree (d + 1) (after (put e d) c).register (with_number d (machine_value e f) f)
+    named : (c : RegisterContents) → AreWords c → Agree d c.register f → Agree (d + 1) (after (put e d) c).register (with_number d (machine_value e f) f)
     named c all same =
         let p = puts_value e d c below all in
         agree_with d (machine_value e f) (after (put e d) c).register f (record { at = λ r lt. p.keeps r lt ∙ same.at r lt }) (p.puts ∙ value_same e d c.register f same below)
 
 -- the code of an operand, where the registers have these numbers
-at_registers : (e : Expr) (d k : ℕ) (c : Contents) (f : ℕ → ℕ) → d ≤ k → AreWords c → Agree d c.register f → is_below e d ≡ true → Puts (bring e k) (register_of e k) k (machine_value e f) (bring_cost e f) c
+at_registers : (e : Expr) (d k : ℕ) (c : RegisterContents) (f : ℕ → ℕ) → d ≤ k → AreWords c → Agree d c.register f → is_below e d ≡ true → Puts (bring e k) (register_of e k) k (machine_value e f) (bring_cost e f) c
 at_registers e d k c f le all same below =
     let p = brings_value e k c (below_more e d k le below) all in
     record { puts = p.puts ∙ value_same e d c.register f same below; keeps = p.keeps; parameters = p.parameters; tag = p.tag; silent = p.silent; takes = p.takes ∙ bring_cost_same e d c.register f same below }
 
 -- one instruction that issues what depends on one register alone
-gives_wait : (e : Expr) (i : Instr) (d : ℕ) (f : ℕ → ℕ) (issue : ℕ → Issue) → ((c : Contents) → issues_by i c ≡ issue (c.register (register_of e d)) ∷ []) → ((c : Contents) → left_by i c ≡ c) → is_below e d ≡ true
+gives_wait : (e : Expr) (i : Instr) (d : ℕ) (f : ℕ → ℕ) (issue : ℕ → Issue) → ((c : RegisterContents) → issues_by i c ≡ issue (c.register (register_of e d)) ∷ []) → ((c : RegisterContents) → left_by i c ≡ c) → is_below e d ≡ true
     → Gives (Then (bring e d) (Do i)) d d f (issue (machine_value e f) ∷ []) (bring_cost e f + 1)
 gives_wait e i d f issue is same_contents below = record {
   gives = λ c all same.
       let p = at_registers e d d c f (omega arith) all same below in
       ap (λ xs. xs ++ issues_by i (after (bring e d) c)) p.silent ∙ is (after (bring e d) c) ∙ ap (λ v. issue v ∷ []) p.puts;
-  keeps = λ c r lt. ap (λ (g : Contents). g.register r) (same_contents (after (bring e d) c)) ∙ keeps_others (bring e d) r c (bring_leaves e d r lt);
+  keeps = λ c r lt. ap (λ (g : RegisterContents). g.register r) (same_contents (after (bring e d) c)) ∙ keeps_others (bring e d) r c (bring_leaves e d r lt);
   takes = λ c all same. ap (λ n. n + 1) (at_registers e d d c f (omega arith) all same below).takes;
 }
 
@@ -197,21 +197,21 @@ gives_unless a b d f x xs k below_a below_b inner = record {
     v : ℕ
     v = machine_value b f
 
-    first : (c : Contents) → AreWords c → Agree d c.register f → Puts (bring a d) (register_of a d) d (machine_value a f) (bring_cost a f) c
+    first : (c : RegisterContents) → AreWords c → Agree d c.register f → Puts (bring a d) (register_of a d) d (machine_value a f) (bring_cost a f) c
     first c all same = at_registers a d d c f (omega arith) all same below_a
 
-    words : (c : Contents) → AreWords c → AreWords (after (bring b (d + 1)) (after (bring a d) c))
+    words : (c : RegisterContents) → AreWords c → AreWords (after (bring b (d + 1)) (after (bring a d) c))
     words c all = words_kept (bring b (d + 1)) (after (bring a d) c) (bring_sound b (d + 1)) (words_kept (bring a d) c (bring_sound a d) all)
 
-    second : (c : Contents) → AreWords c → Agree d c.register f → Puts (bring b (d + 1)) (register_of b (d + 1)) (d + 1) (machine_value b f) (bring_cost b f) (after (bring a d) c)
+    second : (c : RegisterContents) → AreWords c → Agree d c.register f → Puts (bring b (d + 1)) (register_of b (d + 1)) (d + 1) (machine_value b f) (bring_cost b f) (after (bring a d) c)
     second c all same =
         let p = first c all same in
         at_registers b d (d + 1) (after (bring a d) c) f (omega arith) (words_kept (bring a d) c (bring_sound a d) all) (record { at = λ r lt. p.keeps r lt ∙ same.at r lt }) below_b
 
-    low : (c : Contents) → AreWords c → Agree d c.register f → Agree d (after (bring b (d + 1)) (after (bring a d) c)).register f
+    low : (c : RegisterContents) → AreWords c → Agree d c.register f → Agree d (after (bring b (d + 1)) (after (bring a d) c)).register f
     low c all same = record { at = λ r lt. (second c all same).keeps r (omega (arith, lt)) ∙ (first c all same).keeps r lt ∙ same.at r lt }
 
-    test : (c : Contents) → AreWords c → Agree d c.register f → ltb ((after (bring b (d + 1)) (after (bring a d) c)).register s) ((after (bring b (d + 1)) (after (bring a d) c)).register t) ≡ ltb u v
+    test : (c : RegisterContents) → AreWords c → Agree d c.register f → ltb ((after (bring b (d + 1)) (after (bring a d) c)).register s) ((after (bring b (d + 1)) (after (bring a d) c)).register t) ≡ ltb u v
     test c all same =
         let pa = first c all same in
         let pb = second c all same in
@@ -236,13 +236,13 @@ settings_cost_same (s ∷ ss) d f g same below =
     let b = and_parts (is_below s.expr d) (are_below ss d) below in
     omega (arith, bring_cost_same s.expr d f g same b.0, settings_cost_same ss d f g same b.1)
 
-record Sets (x : Block) (d : ℕ) (p : ℕ → ℕ) (k : ℕ) (c : Contents) : Type 0 where
+record Sets (x : Block) (d : ℕ) (p : ℕ → ℕ) (k : ℕ) (c : RegisterContents) : Type 0 where
   keeps : (r : ℕ) → r < d → (after x c).register r ≡ c.register r
   parameters : (after x c).parameter ≡ p
   silent : issues x c ≡ []
   takes : steps x c ≡ k
 
-sets_all : (ss : List Setting) (d : ℕ) (c : Contents) → are_below ss d ≡ true → AreWords c → Sets (settings_block ss d) d (params_of ss c.register c.parameter) (settings_cost ss c.register) c
+sets_all : (ss : List Setting) (d : ℕ) (c : RegisterContents) → are_below ss d ≡ true → AreWords c → Sets (settings_block ss d) d (params_of ss c.register c.parameter) (settings_cost ss c.register) c
 sets_all [] d c below all = record { keeps = λ r lt. refl; parameters = refl; silent = refl; takes = refl }
 sets_all (s ∷ ss) d c below all =
     let b = and_parts (is_below s.expr d) (are_below ss d) below in
@@ -261,11 +261,11 @@ sets_all (s ∷ ss) d c below all =
 
 -- ---- an order's code issues it
 
-dma_issue : (write : Bool) (c : Contents) → issues_by (Dma write) c ≡ transfer_issue write (transfer (standing 0 c)) ∷ []
+dma_issue : (write : Bool) (c : RegisterContents) → issues_by (Dma write) c ≡ transfer_issue write (transfer (standing 0 c)) ∷ []
 dma_issue false c = refl
 dma_issue true c = refl
 
-abbrev holding : (ℕ → ℕ) → ℕ → (ℕ → ℕ) → Contents
+abbrev holding : (ℕ → ℕ) → ℕ → (ℕ → ℕ) → RegisterContents
 holding register tag parameter = record { register = register; parameter = parameter; tag = tag }
 
 gives_order : (o : Order) (d : ℕ) (f : ℕ → ℕ) → is_order_closed o d ≡ true → Gives (order_block o d) d d f (issue_by (λ e. machine_value e f) o ∷ []) (order_cost o f)
@@ -314,24 +314,24 @@ gives_order (AwaitTag e) d f closed = gives_wait e (Twait (register_of e d)) d f
 -- ---- turns
 
 module _ (d n : ℕ) (f : ℕ → ℕ) (x : Block) (g : ℕ → List Issue) (k : ℕ → ℕ) (few : n < 2 ^ 32) (sound : is_sound x ≡ true) (body : (t : ℕ) → t < n → Gives x (d + 2) (d + 2) (in_turn f d n t) (g t) (k t)) where
-  turn : Contents → Contents
+  turn : RegisterContents → RegisterContents
   turn c = left_by (one_less d) (after (Then x (Do (Addi (d + 1) (d + 1) 1))) c)
 
   -- where so many turns are left, of which the next is turn t
-  record Stands (left t : ℕ) (c : Contents) : Type 0 where
+  record Stands (left t : ℕ) (c : RegisterContents) : Type 0 where
     all : left + t ≡ n
     words : AreWords c
     has_left : c.register d ≡ left
     has_turn : c.register (d + 1) ≡ t
     low : (r : ℕ) → r < d → c.register r ≡ f r
 
-  begins : (left t : ℕ) (c : Contents) → Stands (suc left) t c → Agree (d + 2) c.register (in_turn f d n t)
+  begins : (left t : ℕ) (c : RegisterContents) → Stands (suc left) t c → Agree (d + 2) c.register (in_turn f d n t)
   begins left t c s =
       let is_left : c.register d ≡ n - t = s.has_left ∙ omega (arith, s.all) in
       let same = agree_with (d + 1) t c.register (with_number d (n - t) f) (agree_with d (n - t) c.register f (record { at = s.low }) is_left) s.has_turn in
       record { at = λ r lt. same.at r (omega (arith, lt)) }
 
-  turned : (left t : ℕ) (c : Contents) → Stands (suc left) t c → Stands left (t + 1) (turn c)
+  turned : (left t : ℕ) (c : RegisterContents) → Stands (suc left) t c → Stands left (t + 1) (turn c)
   unfolding turn
   turned left t c s =
       let b = body t (omega (arith, s.all)) in
@@ -350,13 +350,13 @@ module _ (d n : ℕ) (f : ℕ → ℕ) (x : Block) (g : ℕ → List Issue) (k :
         low = λ r lt. with_other c2.register d _ r (ne_eqb r d (λ e. omega (arith, e, lt))) ∙ with_other c1.register (d + 1) _ r (ne_eqb r (d + 1) (λ e. omega (arith, e, lt))) ∙ b.keeps c r (omega (arith, lt)) ∙ s.low r lt;
       }
 
-  turns_give : (left t : ℕ) (c : Contents) → Stands left t c → repeated_issues left turn (issues (Then x (Do (Addi (d + 1) (d + 1) 1)))) c ≡ turns_list left t g
+  turns_give : (left t : ℕ) (c : RegisterContents) → Stands left t c → repeated_issues left turn (issues (Then x (Do (Addi (d + 1) (d + 1) 1)))) c ≡ turns_list left t g
   turns_give zero t c s = refl
   turns_give (suc left) t c s =
       let b = (body t (omega (arith, s.all))).gives c s.words (begins left t c s) in
       ap (λ ys. (issues x c ++ []) ++ ys) (turns_give left (t + 1) (turn c) (turned left t c s)) ∙ ap (λ xs. xs ++ turns_list left (t + 1) g) (append-nil (issues x c) ∙ b)
 
-  turns_take : (left t : ℕ) (c : Contents) → Stands left t c → repeated_steps left turn (steps (Then x (Do (Addi (d + 1) (d + 1) 1)))) c ≡ turns_steps left t k
+  turns_take : (left t : ℕ) (c : RegisterContents) → Stands left t c → repeated_steps left turn (steps (Then x (Do (Addi (d + 1) (d + 1) 1)))) c ≡ turns_steps left t k
   turns_take zero t c s = refl
   turns_take (suc left) t c s =
       let b = (body t (omega (arith, s.all))).takes c s.words (begins left t c s) in
@@ -377,7 +377,7 @@ module _ (d n : ℕ) (f : ℕ → ℕ) (x : Block) (g : ℕ → List Issue) (k :
         ap (λ k. 1 + (2 + repeated_steps k turn (steps (Then x (Do (Addi (d + 1) (d + 1) 1)))) c1)) s.has_left ∙ ap (λ k. 1 + (2 + k)) (turns_take n 0 c1 s);
   }
     where
-      stands : (c : Contents) → AreWords c → Agree (d + 1) c.register (with_number d n f) → Stands n 0 (left_by (Li (d + 1) 0) c)
+      stands : (c : RegisterContents) → AreWords c → Agree (d + 1) c.register (with_number d n f) → Stands n 0 (left_by (Li (d + 1) 0) c)
       stands c all same = record {
         all = omega arith;
         words = words_left (Li (d + 1) 0) c refl all;
@@ -390,33 +390,33 @@ module _ (d n : ℕ) (f : ℕ → ℕ) (x : Block) (g : ℕ → List Issue) (k :
 
 module _ (d : ℕ) (f : ℕ → ℕ) (x y : Block) (t : ℕ) (next : ℕ → ℕ → ℕ) (g : ℕ → ℕ → List Issue) (k e : ℕ → ℕ → ℕ) (sound_x : is_sound x ≡ true) (sound_y : is_sound y ≡ true)
     (body : (left v : ℕ) → Gives x (d + 2) (d + 2) (with_left f d left v) (g left v) (k left v))
-    (step : (left v : ℕ) (c : Contents) → AreWords c → Agree (d + 2) c.register (with_left f d left v) → Puts y t (d + 2) (next left v) (e left v) c) (next_word : (left v : ℕ) → next left v < 2 ^ 32) where
+    (step : (left v : ℕ) (c : RegisterContents) → AreWords c → Agree (d + 2) c.register (with_left f d left v) → Puts y t (d + 2) (next left v) (e left v) c) (next_word : (left v : ℕ) → next left v < 2 ^ 32) where
   abbrev inside : Block
   inside = Then x (Then y (Do (Addi (d + 1) t 0)))
 
-  carry : Contents → Contents
+  carry : RegisterContents → RegisterContents
   carry c = left_by (one_less d) (after (Then x (Then y (Do (Addi (d + 1) t 0)))) c)
 
-  record Holds (left v : ℕ) (c : Contents) : Type 0 where
+  record Holds (left v : ℕ) (c : RegisterContents) : Type 0 where
     few : left < 2 ^ 32
     words : AreWords c
     has_left : c.register d ≡ left
     has_carried : c.register (d + 1) ≡ v
     low : (r : ℕ) → r < d → c.register r ≡ f r
 
-  knows : (left v : ℕ) (c : Contents) → Holds left v c → Agree (d + 2) c.register (with_left f d left v)
+  knows : (left v : ℕ) (c : RegisterContents) → Holds left v c → Agree (d + 2) c.register (with_left f d left v)
   knows left v c s =
       let same = agree_with (d + 1) v c.register (with_number d left f) (agree_with d left c.register f (record { at = s.low }) s.has_left) s.has_carried in
       record { at = λ r lt. same.at r (omega (arith, lt)) }
 
   -- the registers behind the body
-  behind : (left v : ℕ) (c : Contents) → Holds left v c → Agree (d + 2) (after x c).register (with_left f d left v)
+  behind : (left v : ℕ) (c : RegisterContents) → Holds left v c → Agree (d + 2) (after x c).register (with_left f d left v)
   behind left v c s = record { at = λ r lt. (body left v).keeps c r lt ∙ (knows left v c s).at r lt }
 
-  steps_on : (left v : ℕ) (c : Contents) → Holds left v c → Puts y t (d + 2) (next left v) (e left v) (after x c)
+  steps_on : (left v : ℕ) (c : RegisterContents) → Holds left v c → Puts y t (d + 2) (next left v) (e left v) (after x c)
   steps_on left v c s = step left v (after x c) (words_kept x c sound_x s.words) (behind left v c s)
 
-  carries : (left v : ℕ) (c : Contents) → Holds (suc left) v c → Holds left (next (suc left) v) (carry c)
+  carries : (left v : ℕ) (c : RegisterContents) → Holds (suc left) v c → Holds left (next (suc left) v) (carry c)
   unfolding carry
   carries left v c s =
       let c1 = after x c in
@@ -436,7 +436,7 @@ module _ (d : ℕ) (f : ℕ → ℕ) (x y : Block) (t : ℕ) (next : ℕ → ℕ
         low = λ r lt. with_other c3.register d _ r (ne_eqb r d (λ e. omega (arith, e, lt))) ∙ low r (omega (arith, lt)) ∙ (below_with (d + 1) v (with_number d (suc left) f)).at r (omega (arith, lt)) ∙ (below_with d (suc left) f).at r lt;
       }
 
-  carry_gives : (left v : ℕ) (c : Contents) → Holds left v c → repeated_issues left carry (issues (Then x (Then y (Do (Addi (d + 1) t 0))))) c ≡ carried_list left v next g
+  carry_gives : (left v : ℕ) (c : RegisterContents) → Holds left v c → repeated_issues left carry (issues (Then x (Then y (Do (Addi (d + 1) t 0))))) c ≡ carried_list left v next g
   carry_gives zero v c s = refl
   carry_gives (suc left) v c s =
       let b = (body (suc left) v).gives c s.words (knows (suc left) v c s) in
@@ -444,7 +444,7 @@ module _ (d : ℕ) (f : ℕ → ℕ) (x y : Block) (t : ℕ) (next : ℕ → ℕ
       ap (λ ys. (issues x c ++ (issues y (after x c) ++ [])) ++ ys) (carry_gives left (next (suc left) v) (carry c) (carries left v c s)) ∙ ap (λ zs. (issues x c ++ (zs ++ [])) ++ carried_list left (next (suc left) v) next g) p.silent
       ∙ ap (λ xs. xs ++ carried_list left (next (suc left) v) next g) (append-nil (issues x c) ∙ b)
 
-  carry_takes : (left v : ℕ) (c : Contents) → Holds left v c → repeated_steps left carry (steps (Then x (Then y (Do (Addi (d + 1) t 0))))) c ≡ carried_steps left v next (λ left v. k left v + (e left v + 1))
+  carry_takes : (left v : ℕ) (c : RegisterContents) → Holds left v c → repeated_steps left carry (steps (Then x (Then y (Do (Addi (d + 1) t 0))))) c ≡ carried_steps left v next (λ left v. k left v + (e left v + 1))
   carry_takes zero v c s = refl
   carry_takes (suc left) v c s =
       let b = (body (suc left) v).takes c s.words (knows (suc left) v c s) in
@@ -460,7 +460,7 @@ module _ (d : ℕ) (f : ℕ → ℕ) (x y : Block) (t : ℕ) (next : ℕ → ℕ
     takes = λ c all same. ap (λ k. 2 + repeated_steps k carry (steps (Then x (Then y (Do (Addi (d + 1) t 0))))) c) (holds c all same).has_left ∙ ap (λ k. 2 + k) (carry_takes n v c (holds c all same));
   }
     where
-      holds : (c : Contents) → AreWords c → Agree (d + 1 + 1) c.register (with_left f d n v) → Holds n v c
+      holds : (c : RegisterContents) → AreWords c → Agree (d + 1 + 1) c.register (with_left f d n v) → Holds n v c
       holds c all same = record {
         few = few;
         words = all;

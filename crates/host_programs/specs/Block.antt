@@ -4,7 +4,7 @@ use Rattle.std.specs.Prelude.{ℕ, zero, suc, ◌+◌, ◌-◌, ◌^◌, ◌==�
 use Rattle.venice_isa.specs.declared.issue.Issue.{Issue}
 use Rattle.venice_isa.specs.declared.instr.Instr.{Instr}
 use Rattle.venice_isa.specs.declared.instr.Instr.TheVariants.{Halt, Li, Addi, Add, Sub, Mul, Div, Bnz, Blt, Jmp}
-use Rattle.host_programs.specs.Contents.{Contents, left_by, issues_by}
+use Rattle.host_programs.specs.Contents.{RegisterContents, left_by, issues_by}
 
 pub data Block : Type 0 where
   Empty : Block
@@ -40,33 +40,33 @@ instrs_at (Turns c x) place =
 -- ---- what it does, where nothing holds the host up
 
 -- the contents after so many turns, the issues of the turns, and their steps with two more a turn
-abbrev pub repeated : ℕ → (turn : Contents → Contents) → Contents → Contents
+abbrev pub repeated : ℕ → (turn : RegisterContents → RegisterContents) → RegisterContents → RegisterContents
 repeated zero turn held = held
 repeated (suc n) turn held = repeated n turn (turn held)
 
-abbrev pub repeated_issues : ℕ → (turn : Contents → Contents) → (Contents → List Issue) → Contents → List Issue
+abbrev pub repeated_issues : ℕ → (turn : RegisterContents → RegisterContents) → (RegisterContents → List Issue) → RegisterContents → List Issue
 repeated_issues zero turn each held = []
 repeated_issues (suc n) turn each held = each held ++ repeated_issues n turn each (turn held)
 
-abbrev pub repeated_steps : ℕ → (turn : Contents → Contents) → (Contents → ℕ) → Contents → ℕ
+abbrev pub repeated_steps : ℕ → (turn : RegisterContents → RegisterContents) → (RegisterContents → ℕ) → RegisterContents → ℕ
 repeated_steps zero turn each held = 0
 repeated_steps (suc n) turn each held = each held + (2 + repeated_steps n turn each (turn held))
 
-abbrev pub after : Block → Contents → Contents
+abbrev pub after : Block → RegisterContents → RegisterContents
 after Empty held = held
 after (Do instr) held = left_by instr held
 after (Then x y) held = after y (after x held)
 after (Unless a b x) held = if nat_lt (held.register a) (held.register b) then held else after x held
 after (Turns c x) held = repeated (held.register c) (λ h. left_by (one_less c) (after x h)) held
 
-abbrev pub issues : Block → Contents → List Issue
+abbrev pub issues : Block → RegisterContents → List Issue
 issues Empty held = []
 issues (Do instr) held = issues_by instr held
 issues (Then x y) held = issues x held ++ issues y (after x held)
 issues (Unless a b x) held = if nat_lt (held.register a) (held.register b) then [] else issues x held
 issues (Turns c x) held = repeated_issues (held.register c) (λ h. left_by (one_less c) (after x h)) (issues x) held
 
-abbrev pub steps : Block → Contents → ℕ
+abbrev pub steps : Block → RegisterContents → ℕ
 steps Empty held = 0
 steps (Do instr) held = 1
 steps (Then x y) held = steps x held + steps y (after x held)

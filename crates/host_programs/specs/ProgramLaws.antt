@@ -3,7 +3,7 @@ use Rattle.std.specs.Prelude.{◌≡◌, ℕ, ◌<◌, List, [], ◌∷◌, ◌+
 use Rattle.venice_isa.specs.declared.issue.Issue.{Issue}
 use Rattle.venice_isa.specs.declared.instr.Instr.TheVariants.{Halt}
 use Rattle.venice_isa.specs.Host.{issue_list}
-use Rattle.host_programs.specs.Contents.{Contents, AreWords}
+use Rattle.host_programs.specs.Contents.{RegisterContents, AreWords}
 use Rattle.host_programs.specs.Block.{Block, instrs_at, after, issues, steps, is_sound}
 use Rattle.host_programs.specs.Expr.{value, machine_value}
 use Rattle.host_programs.specs.ExprLaws.{Agree}
@@ -14,9 +14,9 @@ use Rattle.host_programs.specs.ProgramFits.{ProgramFits}
 -- wherever the registers below n have the numbers f, the block passes on this list in so many steps; it keeps the
 -- registers below d
 pub record Gives (x : Block) (n d : ℕ) (f : ℕ → ℕ) (list : List Issue) (count : ℕ) : Type 0 where
-  pub gives : (held : Contents) → AreWords held → Agree n held.register f → issues x held ≡ list
-  pub keeps : (held : Contents) (r : ℕ) → r < d → (after x held).register r ≡ held.register r
-  pub takes : (held : Contents) → AreWords held → Agree n held.register f → steps x held ≡ count
+  pub gives : (held : RegisterContents) → AreWords held → Agree n held.register f → issues x held ≡ list
+  pub keeps : (held : RegisterContents) (r : ℕ) → r < d → (after x held).register r ≡ held.register r
+  pub takes : (held : RegisterContents) → AreWords held → Agree n held.register f → steps x held ≡ count
 
 abbrev pub no_registers : ℕ → ℕ
 no_registers r = 0

@@ -25,7 +25,7 @@ use Rattle.image_loader.specs.declared.table.EntryPart.TheVariants.{Rows, Column
 use Rattle.image_loader.specs.declared.fault.ImageFault.{ImageFault}
 use Rattle.image_loader.specs.declared.fault.ImageFault.TheVariants.{Truncated, BadMagic, BadTable, BadInstr, BadTarget, NoHalt, Trailing, Memory}
 use Rattle.image_loader.specs.Table.{Header, RawEntry, no_entry, LiesIn, HeaderField, EntryField, HeaderPart, Spad, Memory as MemoryPart, Arrays, Instrs, least_of, most_of, header_number, array_bytes, BreaksEntry, BreaksTable, entry_place, table_place}
-use Rattle.image_loader.specs.Image.{Contents, IsImage, IsTable, raw_entry, raw_entries, header_of, word, magic, header_bytes, table_bytes, code_bytes, spelling}
+use Rattle.image_loader.specs.Image.{ImageContents, IsImage, IsTable, raw_entry, raw_entries, header_of, word, magic, header_bytes, table_bytes, code_bytes, spelling}
 use Rattle.image_loader.specs.Reading.{number_at, version_in, header_in, entries_at, entries_in, code_place, instr_bytes, image_end}
 use Rattle.image_loader.specs.Faults.{Slot, MagicByte, Field, Instruction, FitsMagic, IsWrongSlot, Defect, CutOff, Wrong, Endless, Longer, IsDefect, EndsInHalt, IsAnswer, Spells}
 use Rattle.image_loader.specs.Loading.{IsLoading}
@@ -74,7 +74,7 @@ pub image_spelled : (bytes : List ℕ) (version : Version) (header : Header) (ar
     → bytes ≡ spelling (record { spad = header.spad; memory = header.memory; arrays = arrays; code = record { version = version; instrs = instrs } })
 unfolding spelling
 image_spelled bytes version header arrays instrs small magic_read header_read arrays_are code_read end =
-    let image : Contents = record { spad = header.spad; memory = header.memory; arrays = arrays; code = record { version = version; instrs = instrs } } in
+    let image : ImageContents = record { spad = header.spad; memory = header.memory; arrays = arrays; code = record { version = version; instrs = instrs } } in
     let entries = entries_in bytes in
     let within = header_read.read.within in
     let first : bytes ≡ magic version ++ drop 4 bytes = four_bytes bytes 0 (omega arith) ∙ ap (λ (t : List ℕ). t ++ drop 4 bytes) (sym magic_read.spelled) in
@@ -91,7 +91,7 @@ image_spelled bytes version header arrays instrs small magic_read header_read ar
     first ∙ ap (λ (t : List ℕ). magic version ++ t) (second ∙ ap (λ (t : List ℕ). header_bytes (header_of image) ++ t) (third ∙ ap (λ (t : List ℕ). table_bytes (raw_entries arrays) ++ t) fifth))
 
 -- the image that was read
-abbrev pub read_contents : Version → Header → List Entry → List Instr → Contents
+abbrev pub read_contents : Version → Header → List Entry → List Instr → ImageContents
 read_contents version header arrays instrs = record { spad = header.spad; memory = header.memory; arrays = arrays; code = record { version = version; instrs = instrs } }
 
 pub read_code_is : (bytes : List ℕ) (version : Version) (header : Header) (instrs : List Instr) (end : ℕ) → IsMagicRead bytes version → IsHeaderRead bytes header → IsCodeRead bytes instrs end → EndsWithHalt instrs → IsCode (record { version = version; instrs = instrs })
@@ -116,7 +116,7 @@ read_spelled bytes version header arrays instrs table_end end small m h t c end_
 
 -- ---- what is written
 
-pub written : (image : Contents) (s0 s1 s2 s3 : List ℕ) (version : Version) (header : Header) (arrays : List Entry) (code : Listing) → s0 ≡ [] → version ≡ image.code.version → header ≡ header_of image → arrays ≡ image.arrays → code ≡ image.code
+pub written : (image : ImageContents) (s0 s1 s2 s3 : List ℕ) (version : Version) (header : Header) (arrays : List Entry) (code : Listing) → s0 ≡ [] → version ≡ image.code.version → header ≡ header_of image → arrays ≡ image.arrays → code ≡ image.code
     → s1 ≡ s0 ++ (magic version ++ header_bytes header) → s2 ≡ s1 ++ table_bytes (raw_entries arrays) → s3 ≡ s2 ++ code_bytes code → s3 ≡ spelling image
 unfolding spelling
 written image s0 s1 s2 s3 version header arrays code none version_is header_is arrays_is code_is e1 e2 e3 =
@@ -138,7 +138,7 @@ lies_in least most n there = record {
   to = elim (cases_lt most n) [ inl lt ↦ absurd (there (λ lies. absurd (omega (arith, lies.to)))) | inr ge ↦ ge ];
 }
 
-pub image_lies : (image : Contents) → IsImage image → (part : HeaderPart) → LiesIn (least_of part) (most_of part) (header_number (header_of image) part)
+pub image_lies : (image : ImageContents) → IsImage image → (part : HeaderPart) → LiesIn (least_of part) (most_of part) (header_number (header_of image) part)
 image_lies image is part = lies_in (least_of part) (most_of part) (header_number (header_of image) part) (is.table (HeaderField part))
 
 raw_lengths : (entries : List Entry) (k : ℕ) → (get_or (raw_entries entries) k no_entry).name_length ≡ length (get_or (raw_entries entries) k no_entry).name
@@ -157,7 +157,7 @@ factor_small x y most some within =
     let grows : y * 1 ≤ y * x = mul-le-mul_left y one in
     elim (cases_lt most (y * x)) [ inl lt ↦ absurd (within lt) | inr ge ↦ omega (arith, grows) ]
 
-entry_fits : (image : Contents) → IsImage image → (k : ℕ) → k < length (raw_entries image.arrays) → Fits (get_or (raw_entries image.arrays) k no_entry)
+entry_fits : (image : ImageContents) → IsImage image → (k : ℕ) → k < length (raw_entries image.arrays) → Fits (get_or (raw_entries image.arrays) k no_entry)
 entry_fits image is k less =
     let entries = raw_entries image.arrays in
     let entry = get_or entries k no_entry in
@@ -175,7 +175,7 @@ entry_fits image is k less =
       place = omega (arith, place_small, memory_lies.to);
     }
 
-pub record IsReadAs (bytes : List ℕ) (image : Contents) : Type 0 where
+pub record IsReadAs (bytes : List ℕ) (image : ImageContents) : Type 0 where
   pub version : version_in bytes ≡ image.code.version
   pub magic_is : (i : ℕ) → i < 4 → FitsMagic i (slice_index bytes i)
   pub header : header_in bytes ≡ header_of image
@@ -199,7 +199,7 @@ magic_again Two rest (suc (suc zero)) less = inr refl
 magic_again Two rest (suc (suc (suc zero))) less = inr refl
 magic_again Two rest (suc (suc (suc (suc i)))) less = absurd (omega arith)
 
-pub read_as : (image : Contents) (bytes : List ℕ) → IsImage image → bytes ≡ spelling image → IsReadAs bytes image
+pub read_as : (image : ImageContents) (bytes : List ℕ) → IsImage image → bytes ≡ spelling image → IsReadAs bytes image
 unfolding spelling
 read_as image bytes is spelled =
     let version = image.code.version in
@@ -261,7 +261,7 @@ read_as image bytes is spelled =
 
 -- ---- and has no defect
 
-halt_there : (image : Contents) (bytes : List ℕ) → IsImage image → IsReadAs bytes image → EndsInHalt bytes
+halt_there : (image : ImageContents) (bytes : List ℕ) → IsImage image → IsReadAs bytes image → EndsInHalt bytes
 halt_there image bytes is read =
     let instrs = image.code.instrs in
     let count : (header_in bytes).instr_count ≡ length instrs = ap (λ (h : Header). h.instr_count) read.header in
@@ -273,14 +273,14 @@ halt_there image bytes is read =
       halt = ap (instr_bytes bytes) place ∙ read.instrs (length instrs - 1) (omega arith) ∙ ap encoded last;
     }
 
-spells_at : (image : Contents) (bytes : List ℕ) → IsImage image → IsReadAs bytes image → (k : ℕ) → k < (header_in bytes).instr_count → Spells bytes k (get_or image.code.instrs k Halt)
+spells_at : (image : ImageContents) (bytes : List ℕ) → IsImage image → IsReadAs bytes image → (k : ℕ) → k < (header_in bytes).instr_count → Spells bytes k (get_or image.code.instrs k Halt)
 spells_at image bytes is read k there =
     let instrs = image.code.instrs in
     let count : (header_in bytes).instr_count ≡ length instrs = ap (λ (h : Header). h.instr_count) read.header in
     let less : k < length instrs = omega (arith, there, count) in
     (subst (λ v. IsInstr v (get_or instrs k Halt)) (sym read.version) (All-get_or (IsInstr image.code.version) instrs k Halt less is.code.each), sym (read.instrs k less))
 
-no_wrong_slot : (image : Contents) (bytes : List ℕ) → IsImage image → IsReadAs bytes image → (slot : Slot) (fault : ImageFault) → IsWrongSlot bytes slot fault → ⊥
+no_wrong_slot : (image : ImageContents) (bytes : List ℕ) → IsImage image → IsReadAs bytes image → (slot : Slot) (fault : ImageFault) → IsWrongSlot bytes slot fault → ⊥
 no_wrong_slot image bytes is read (MagicByte i) BadMagic w = w.wrong (read.magic_is i w.there)
 no_wrong_slot image bytes is read (MagicByte i) (Truncated at) w = w.wrong
 no_wrong_slot image bytes is read (MagicByte i) (BadTable at) w = w.wrong
@@ -315,7 +315,7 @@ no_wrong_slot image bytes is read (Instruction k) NoHalt w = w.wrong
 no_wrong_slot image bytes is read (Instruction k) (Trailing at) w = w.wrong
 no_wrong_slot image bytes is read (Instruction k) Memory w = w.wrong
 
-pub no_defect : (image : Contents) (bytes : List ℕ) → IsImage image → bytes ≡ spelling image → (d : Defect) → ¬ IsDefect bytes d
+pub no_defect : (image : ImageContents) (bytes : List ℕ) → IsImage image → bytes ≡ spelling image → (d : Defect) → ¬ IsDefect bytes d
 no_defect image bytes is spelled d holds = at d holds
   where
     read : IsReadAs bytes image
@@ -381,7 +381,7 @@ same_instrs (i ∷ is) (j ∷ js) long each =
     let rest = same_instrs is js (omega (arith, long)) (λ k less. each (suc k) (omega arith)) in
     λ t. first t ∷ rest t
 
-pub one_image : (bytes : List ℕ) (image other : Contents) → IsImage image → IsImage other → bytes ≡ spelling image → bytes ≡ spelling other → image ≡ other
+pub one_image : (bytes : List ℕ) (image other : ImageContents) → IsImage image → IsImage other → bytes ≡ spelling image → bytes ≡ spelling other → image ≡ other
 one_image bytes image other is is' spelled spelled' =
     let read = read_as image bytes is spelled in
     let read' = read_as other bytes is' spelled' in
@@ -401,7 +401,7 @@ one_image bytes image other is is' spelled spelled' =
 
 -- ---- the two answers
 
-pub loaded : (bytes : List ℕ) (image : Contents) → IsImage image → bytes ≡ spelling image → IsLoading bytes (Ok image)
+pub loaded : (bytes : List ℕ) (image : ImageContents) → IsImage image → bytes ≡ spelling image → IsLoading bytes (Ok image)
 loaded bytes image is spelled = record {
   found = is;
   spelled = spelled;

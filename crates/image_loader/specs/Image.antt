@@ -10,7 +10,7 @@ use Rattle.venice_isa.specs.Code.{Listing, IsCode}
 use Rattle.image_loader.specs.Table.{Header, RawEntry, TableField, BreaksTable}
 
 -- the bytes of scratchpad and memory, the arrays in memory, and the code
-pub record Contents : Type 0 where
+pub record ImageContents : Type 0 where
   pub spad : ℕ
   pub memory : ℕ
   pub arrays : List Entry
@@ -32,7 +32,7 @@ raw_entry entry = record {
 abbrev pub raw_entries : List Entry → List RawEntry
 raw_entries entries = map raw_entry entries
 
-abbrev pub header_of : Contents → Header
+abbrev pub header_of : ImageContents → Header
 header_of image = record {
   spad = image.spad;
   memory = image.memory;
@@ -45,7 +45,7 @@ abbrev pub IsTable : Header → List RawEntry → Type 0
 IsTable header entries = (field : TableField) → ¬ BreaksTable header entries field
 
 -- an image: its table and its code keep their rules
-pub record IsImage (image : Contents) : Type 0 where
+pub record IsImage (image : ImageContents) : Type 0 where
   pub table : IsTable (header_of image) (raw_entries image.arrays)
   pub code : IsCode image.code
 
@@ -76,7 +76,7 @@ table_bytes entries = flat_map entry_bytes entries
 abbrev pub code_bytes : Listing → List ℕ
 code_bytes code = flat_map encoded code.instrs
 
-unfoldable pub spelling : Contents → List ℕ
+unfoldable pub spelling : ImageContents → List ℕ
 spelling image =
     magic image.code.version
     ++ (header_bytes (header_of image) ++ (table_bytes (raw_entries image.arrays) ++ code_bytes image.code))

@@ -16,9 +16,9 @@ pub struct Image {
 }
 
 impl Model for Image {
-    ghost use Rattle.image_loader.specs.Image.{Contents, IsImage};
+    ghost use Rattle.image_loader.specs.Image.{ImageContents, IsImage};
 
-    ghost Value = { Contents };
+    ghost Value = { ImageContents };
 
     ghost view = { λ i. record { spad = i.spad; memory = i.memory; arrays = i.arrays.items; code = i.code } };
 

@@ -25,10 +25,10 @@ use Rattle.venice_isa.specs.Encoding.{type_number}
 use Rattle.venice_isa.proofs.Overwrites.{overwritten_length}
 use Rattle.venice_isa.proofs.Spellings.{low_bytes_length}
 use Rattle.array_file.specs.Fitting.{Fits}
-use Rattle.image_loader.specs.Image.{Contents, IsImage, raw_entry, raw_entries}
+use Rattle.image_loader.specs.Image.{ImageContents, IsImage, raw_entry, raw_entries}
 use Rattle.image_loader.specs.declared.table.EntryPart.TheVariants as parts
 use Rattle.image_loader.specs.Table as table
-use Rattle.venice_machine.specs.Start.{array_bytes, with_array, with_inputs}
+use Rattle.venice_machine.specs.Start.{array_bytes, with_grid_bytes, with_inputs}
 use Rattle.overlap_law.specs.Laws.{StartHasSizes, IsInOrder}
 
 -- ---- the bytes of an array
@@ -49,7 +49,7 @@ bytes_counted grid is_grid =
 abbrev LiesIn : Pairs → ℕ → Entry → Type 0
 LiesIn inputs size entry = entry.output ≡ false → (grid : Grid) → array_named inputs entry.name ≡ Some grid → entry.place + length (array_bytes grid) ≤ size
 
-array_keeps : (found : Option Grid) (place : ℕ) (memory : List ℕ) → ((grid : Grid) → found ≡ Some grid → place + length (array_bytes grid) ≤ length memory) → length (with_array found place memory) ≡ length memory
+array_keeps : (found : Option Grid) (place : ℕ) (memory : List ℕ) → ((grid : Grid) → found ≡ Some grid → place + length (array_bytes grid) ≤ length memory) → length (with_grid_bytes found place memory) ≡ length memory
 array_keeps None place memory inside = refl
 array_keeps (Some grid) place memory inside = overwritten_length memory place (array_bytes grid) (inside grid refl)
 
@@ -64,11 +64,11 @@ inputs_keep (entry ∷ entries) inputs memory inside = go entry.output refl (inp
     rest = All-tail (LiesIn inputs (length memory)) entry entries inside
 
     go : (output : Bool) → entry.output ≡ output → ((memory : List ℕ) → All (LiesIn inputs (length memory)) entries → length (with_inputs entries inputs memory) ≡ length memory)
-        → length (with_inputs entries inputs (cond output memory (with_array (array_named inputs entry.name) entry.place memory))) ≡ length memory
+        → length (with_inputs entries inputs (cond output memory (with_grid_bytes (array_named inputs entry.name) entry.place memory))) ≡ length memory
     go true e later = later memory rest
     go false e later =
-        let same : length (with_array (array_named inputs entry.name) entry.place memory) ≡ length memory = array_keeps (array_named inputs entry.name) entry.place memory (here e) in
-        later (with_array (array_named inputs entry.name) entry.place memory) (subst (λ n. All (LiesIn inputs n) entries) (sym same) rest) ∙ same
+        let same : length (with_grid_bytes (array_named inputs entry.name) entry.place memory) ≡ length memory = array_keeps (array_named inputs entry.name) entry.place memory (here e) in
+        later (with_grid_bytes (array_named inputs entry.name) entry.place memory) (subst (λ n. All (LiesIn inputs n) entries) (sym same) rest) ∙ same
 
 -- ---- the table's rule
 
@@ -90,7 +90,7 @@ entry_at [] k d within = absurd (omega arith)
 entry_at (entry ∷ entries) zero d within = refl
 entry_at (entry ∷ entries) (suc k) d within = entry_at entries k d (omega arith)
 
-module _ (image : Contents) (is_image : IsImage image) (inputs : Pairs) (are_pairs : ArePairs inputs) (fits : Fits inputs image.arrays) where
+module _ (image : ImageContents) (is_image : IsImage image) (inputs : Pairs) (are_pairs : ArePairs inputs) (fits : Fits inputs image.arrays) where
   -- each array of the table lies in memory
   stands : (k : ℕ) (d : Entry) → k < length image.arrays → (get_or image.arrays k d).place + elements_of (get_or image.arrays k d).shape * size_of (get_or image.arrays k d).elem ≤ image.memory
   stands k d within =

@@ -2,7 +2,7 @@
 use Rattle.std.specs.Prelude.{◌≡◌, ℕ, ◌+◌, List, take, Some}
 use Rattle.ven_base.specs.Pairs.{Pairs}
 use Rattle.ven_base.specs.Store.{Store}
-use Rattle.image_loader.specs.Image.{Contents}
+use Rattle.image_loader.specs.Image.{ImageContents}
 use Rattle.venice_machine.specs.declared.stop.End.TheVariants.{Halted}
 use Rattle.venice_machine.specs.State.{Setup, State}
 use Rattle.venice_machine.specs.Start.{setup_of, start_state}
@@ -10,7 +10,7 @@ use Rattle.venice_machine.specs.Run.{in_order, after_turns, after_cycles, run}
 
 -- what a run is of: an image and its inputs, a number of lanes, a scratchpad of so many bytes, and the most steps
 pub record Setting : Type 0 where
-  pub image : Contents
+  pub image : ImageContents
   pub inputs : Pairs
   pub lane_count : ℕ
   pub spad : ℕ

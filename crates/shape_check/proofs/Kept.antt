@@ -7,7 +7,7 @@ use Rattle.std.proofs.lemmas.List.Elements.{All-nil, All-cons, All-head, All-tai
 use Rattle.std.proofs.lemmas.List.Sums.{sum_by-cons}
 use Rattle.std.proofs.lemmas.Option.{slice_get-get_or}
 use Rattle.array_syntax.specs.Limits as source
-use Rattle.array_syntax.specs.Limits.{IsFreeName, KeepsLimits, KeepsStatement, most_height, nodes, height, nodes_in}
+use Rattle.array_syntax.specs.Limits.{IsFreeName, KeepsLimits, KeepsStatement, most_height, nodes, height, program_nodes}
 use Rattle.array_syntax.specs.declared.program.Program.{Program}
 use Rattle.array_syntax.specs.declared.program.Stmt.{Stmt}
 use Rattle.array_syntax.specs.declared.program.Stmt.TheVariants as stmts
@@ -78,7 +78,7 @@ statement_named scope (stmts.Output name at value) s keeps h = subst IsFreeName 
 
 -- ---- programs
 
-all_nodes : (scope : Scope) (stmts : List Stmt) (xs : List Statement) → AreTypings scope stmts xs → sum_by (in_value 0 nodes_of) xs ≡ nodes_in stmts
+all_nodes : (scope : Scope) (stmts : List Stmt) (xs : List Statement) → AreTypings scope stmts xs → sum_by (in_value 0 nodes_of) xs ≡ program_nodes stmts
 all_nodes scope [] [] h = refl
 all_nodes scope [] (x ∷ xs) h = absurd h
 all_nodes scope (s ∷ rest) [] h = absurd h

@@ -13,7 +13,7 @@ use Rattle.shape_check.specs.Node.{Node, elem_of, shape_of, is_literal}
 use Rattle.shape_check.specs.Statement.{Statement, Input, Let, Output}
 use Rattle.shape_check.specs.declared.typed.ArrayType.{ArrayType}
 use Rattle.shape_check.specs.Rules.{declared_type, IsTyped, IsTypedStatement, AreTyped}
-use Rattle.shape_check.specs.Meaning.{row_values, values_with, no_grid, expr_at, array_of, input_array, statement_array, arrays_from, arrays_of, FitsStatement, FitInputs, IsArrayOf, StandsFor, AreMeant}
+use Rattle.shape_check.specs.Meaning.{row_values, values_with, no_grid, expr_at, array_of, input_array, statement_array, arrays_from, arrays_of, FitsStatement, FitInputs, IsArrayAt, StandsFor, AreMeant}
 use Rattle.shape_check.specs.Laws.{IsArrayIn, Stands, HasOneMeaning, ReducesRows, ReducesArrays}
 use Rattle.ven_base.proofs.Made.{row_values-length, grid_with-at, IsGrid-grid_with}
 use Rattle.shape_check.proofs.Typing.{shape_of-IsExtent, Stands-AreShapes, expr_at-IsElement, expr_at-append, folded-IsFolded, some_values}
@@ -25,15 +25,15 @@ array_of-IsGrid types arrays e h typed array =
     IsGrid-grid_with (elem_of e) (shape_of e) (expr_at arrays e) (shape_of-IsExtent types e (Stands-AreShapes types arrays h) typed array) (expr_at-IsElement types arrays e h typed)
 
 -- it is the only one with the expression's values
-IsArrayOf-unique : (types : List ArrayType) (before more : List Grid) (e : Node) (array : Grid) → Stands types before → IsTyped types e → is_literal e ≡ false → IsArrayOf (before ++ more) e array → array ≡ array_of before e
-IsArrayOf-unique types before more e array h typed plain is =
+IsArrayAt-unique : (types : List ArrayType) (before more : List Grid) (e : Node) (array : Grid) → Stands types before → IsTyped types e → is_literal e ≡ false → IsArrayAt (before ++ more) e array → array ≡ array_of before e
+IsArrayAt-unique types before more e array h typed plain is =
     same_grids array (array_of before e) is.is_grid (array_of-IsGrid types before e h typed plain) is.elem_is is.shape_is
     (λ i j index.
     let inside : IsIndex (shape_of e) i j = subst (λ (s : Extent). IsIndex s i j) is.shape_is index in
     is.values_are i j inside ∙ expr_at-append types before more e h.counted typed i j ∙ sym (grid_with-at (elem_of e) (shape_of e) (expr_at before e) i j inside))
 
-IsArrayOf-array_of : (types : List ArrayType) (before more : List Grid) (e : Node) → Stands types before → IsTyped types e → is_literal e ≡ false → IsArrayOf (before ++ more) e (array_of before e)
-IsArrayOf-array_of types before more e h typed plain = record {
+IsArrayAt-array_of : (types : List ArrayType) (before more : List Grid) (e : Node) → Stands types before → IsTyped types e → is_literal e ≡ false → IsArrayAt (before ++ more) e (array_of before e)
+IsArrayAt-array_of types before more e h typed plain = record {
   is_grid = array_of-IsGrid types before e h typed plain;
   elem_is = refl;
   shape_is = refl;
@@ -77,14 +77,14 @@ statement_array-IsArrayIn inputs types arrays (Output name value) h typed fit =
 -- a statement's array is the only one that stands for it
 StandsFor-unique : (inputs : Pairs) (types : List ArrayType) (before more : List Grid) (s : Statement) (array : Grid) → Stands types before → IsTypedStatement types s → FitsStatement inputs s → StandsFor inputs (before ++ more) s array → array ≡ statement_array inputs before s
 StandsFor-unique inputs types before more (Input name elem shape) array h typed fit is = sym (ap (λ o. unwrap_or o (no_grid elem shape)) is)
-StandsFor-unique inputs types before more (Let name value) array h typed fit is = IsArrayOf-unique types before more value array h typed.0 typed.1.no_literal is
-StandsFor-unique inputs types before more (Output name value) array h typed fit is = IsArrayOf-unique types before more value array h typed.0 typed.1.no_literal is
+StandsFor-unique inputs types before more (Let name value) array h typed fit is = IsArrayAt-unique types before more value array h typed.0 typed.1.no_literal is
+StandsFor-unique inputs types before more (Output name value) array h typed fit is = IsArrayAt-unique types before more value array h typed.0 typed.1.no_literal is
 
 StandsFor-statement_array : (inputs : Pairs) (types : List ArrayType) (before more : List Grid) (s : Statement) → Stands types before → IsTypedStatement types s → FitsStatement inputs s → StandsFor inputs (before ++ more) s (statement_array inputs before s)
 StandsFor-statement_array inputs types before more (Input name elem shape) h typed fit =
     fit.found ∙ ap Some (ap (λ o. unwrap_or o (no_grid elem shape)) (sym fit.found))
-StandsFor-statement_array inputs types before more (Let name value) h typed fit = IsArrayOf-array_of types before more value h typed.0 typed.1.no_literal
-StandsFor-statement_array inputs types before more (Output name value) h typed fit = IsArrayOf-array_of types before more value h typed.0 typed.1.no_literal
+StandsFor-statement_array inputs types before more (Let name value) h typed fit = IsArrayAt-array_of types before more value h typed.0 typed.1.no_literal
+StandsFor-statement_array inputs types before more (Output name value) h typed fit = IsArrayAt-array_of types before more value h typed.0 typed.1.no_literal
 
 -- ---- all statements
 

@@ -100,7 +100,7 @@ FitInputs (statement ∷ more) inputs = FitsStatement inputs statement × FitInp
 -- ---- what a meaning is, whoever finds it
 
 -- an array of the expression's type and shape, whose value at each index is the expression's
-pub record IsArrayOf (arrays : List Grid) (e : Node) (array : Grid) : Type 0 where
+pub record IsArrayAt (arrays : List Grid) (e : Node) (array : Grid) : Type 0 where
   pub is_grid : IsGrid array
   pub elem_is : array.elem ≡ elem_of e
   pub shape_is : array.shape ≡ shape_of e
@@ -109,8 +109,8 @@ pub record IsArrayOf (arrays : List Grid) (e : Node) (array : Grid) : Type 0 whe
 -- the array of a statement, where these are the arrays of all names
 abbrev pub StandsFor : Pairs → List Grid → Statement → Grid → Type 0
 StandsFor inputs arrays (Input name elem shape) array = array_named inputs name ≡ Some array
-StandsFor inputs arrays (Let name value) array = IsArrayOf arrays value array
-StandsFor inputs arrays (Output name value) array = IsArrayOf arrays value array
+StandsFor inputs arrays (Let name value) array = IsArrayAt arrays value array
+StandsFor inputs arrays (Output name value) array = IsArrayAt arrays value array
 
 -- the arrays of all statements: each name stands for its statement's whole array
 abbrev pub AreMeant : List Statement → Pairs → List Grid → Type 0

@@ -22,23 +22,23 @@ own_name (Name elem shape k) = k ∷ []
 own_name _ = []
 
 -- the names that stand themselves as the operand of a map
-abbrev pub mapped_in : Node → List ℕ
-mapped_in (Name elem shape k) = []
-mapped_in (Literal elem shape value) = []
-mapped_in (One elem shape op a) = mapped_in a
-mapped_in (Two elem shape op a b) = mapped_in a ++ mapped_in b
-mapped_in (Cast elem shape a) = mapped_in a
-mapped_in (Select elem shape c x y) = mapped_in c ++ (mapped_in x ++ mapped_in y)
-mapped_in (Map elem shape mapping a) = own_name a ++ mapped_in a
-mapped_in (RowFold elem shape fold a) = mapped_in a
-mapped_in (Fold elem shape fold a) = mapped_in a
+abbrev pub names_under_maps : Node → List ℕ
+names_under_maps (Name elem shape k) = []
+names_under_maps (Literal elem shape value) = []
+names_under_maps (One elem shape op a) = names_under_maps a
+names_under_maps (Two elem shape op a b) = names_under_maps a ++ names_under_maps b
+names_under_maps (Cast elem shape a) = names_under_maps a
+names_under_maps (Select elem shape c x y) = names_under_maps c ++ (names_under_maps x ++ names_under_maps y)
+names_under_maps (Map elem shape mapping a) = own_name a ++ names_under_maps a
+names_under_maps (RowFold elem shape fold a) = names_under_maps a
+names_under_maps (Fold elem shape fold a) = names_under_maps a
 
 -- the same of a program's statements
 abbrev pub all_names : List Statement → List ℕ
 all_names program = flat_map (in_value [] names_in) program
 
 abbrev pub all_mapped : List Statement → List ℕ
-all_mapped program = flat_map (in_value [] mapped_in) program
+all_mapped program = flat_map (in_value [] names_under_maps) program
 
 -- how often a name occurs in all statements, and whether it stands itself as the operand of a map
 abbrev pub uses_of : List Statement → ℕ → ℕ

@@ -16,7 +16,7 @@ use Rattle.vector_codegen.specs.Work.{Shape, Source, Buffers, op_work, two_work,
 use Rattle.vector_codegen.specs.Kind.{is_turned}
 use Rattle.vector_codegen.specs.Root.{joining_work, sum_works}
 use Rattle.vector_codegen.specs.TileList.{fill_work, works_with}
-use Rattle.vector_codegen.specs.Count.{beats_of_all, AreAtMost}
+use Rattle.vector_codegen.specs.Count.{vector_beats_of_all, AreAtMost}
 use Rattle.vector_codegen.proofs.Held.{count_of}
 
 -- no fill is empty, and together they have at most so many elements
@@ -71,7 +71,7 @@ module _ (shape : Shape) (b : Buffers) (lanes : ℕ) (some_rows : 0 < shape.rows
   pub one_more : (work : VecWork) (works : List VecWork) (m more : ℕ) → 1 ≤ m → vector_beats work lanes ≤ m → AreAtMost works lanes more → AreAtMost (work ∷ works) lanes (m + more)
   one_more work works m more some_m few rest = let c = rest.count in let bs = rest.beats in record { count = omega arith; beats = omega arith }
 
-  beats_both : (works works' : List VecWork) → beats_of_all (works ++ works') lanes ≡ beats_of_all works lanes + beats_of_all works' lanes
+  beats_both : (works works' : List VecWork) → vector_beats_of_all (works ++ works') lanes ≡ vector_beats_of_all works lanes + vector_beats_of_all works' lanes
   beats_both [] works' = omega arith
   beats_both (work ∷ works) works' = let rest = beats_both works works' in omega arith
 

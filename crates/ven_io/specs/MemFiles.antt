@@ -11,12 +11,12 @@ use Rattle.ven_io.specs.Files.{Behaviour, FilesState}
 use Rattle.ven_io.specs.Numbers.{Numbers, FailsSometime}
 
 -- the bytes of each name that is there
-abbrev pub Contents : Type 0
-Contents = fin.FinMap (slice_cmp nat_cmp) (List ℕ)
+abbrev pub FileContents : Type 0
+FileContents = fin.FinMap (slice_cmp nat_cmp) (List ℕ)
 
 -- what they hold, which calls fail, and how many loads and saves have failed
 pub record MemFilesState : Type 0 where
-  pub holds : Contents
+  pub holds : FileContents
   pub numbers : Numbers
   pub failed_loads : ℕ
   pub failed_saves : ℕ
@@ -24,7 +24,7 @@ pub record MemFilesState : Type 0 where
 -- a state is stored as the tuple of its parts
 abbrev pub mem_files_code : Coded MemFilesState
 mem_files_code =
-    code_by ((Contents × List ℕ) × (ℕ × (ℕ × ℕ)))
+    code_by ((FileContents × List ℕ) × (ℕ × (ℕ × ℕ)))
     (coded× (coded× (fin.code (coded_list coded_ℕ) (coded_list coded_ℕ)) (coded_list coded_ℕ))
     (coded× coded_ℕ (coded× coded_ℕ coded_ℕ)))
     (λ s. ((s.holds, s.numbers.fails), (s.numbers.last, (s.failed_loads, s.failed_saves))))
@@ -36,12 +36,12 @@ mem_files_code =
     }) (λ _. refl)
 
 -- what a map from texts to bytes holds
-abbrev pub contents_of : BTreeMap (String Global) (Vec ℕ) → Contents
+abbrev pub contents_of : BTreeMap (String Global) (Vec ℕ) → FileContents
 contents_of files = fin.from_entries (map (λ e. (string_bytes e.0, e.1.items)) files.entries)
 
 -- what of them only a save changes: the files, and the list of failing calls, which stays
 pub record MemContent : Type 0 where
-  pub holds : Contents
+  pub holds : FileContents
   pub fails : List ℕ
 
 -- They show what they hold, and nothing fails where no call is listed as failing.
@@ -61,5 +61,5 @@ files_state s = record {
 }
 
 -- every file but one is as it was
-abbrev pub OtherFilesStay : Contents → Contents → List ℕ → Type 0
+abbrev pub OtherFilesStay : FileContents → FileContents → List ℕ → Type 0
 OtherFilesStay before after name = (other : List ℕ) → (other ≡ name → ⊥) → fin.get after other ≡ fin.get before other

@@ -5,7 +5,7 @@ use Rattle.std.proofs.lemmas.List.{length-map}
 use Rattle.ven_base.specs.declared.entry.Entry.{Entry}
 use Rattle.venice_isa.specs.declared.instr.Instr.{Instr}
 use Rattle.venice_isa.specs.Code.{IsCode}
-use Rattle.image_loader.specs.Image.{Contents, IsImage, raw_entry, raw_entries}
+use Rattle.image_loader.specs.Image.{ImageContents, IsImage, raw_entry, raw_entries}
 use Rattle.image_loader.specs.Table.{BreaksTable}
 use Rattle.venice_asm.specs.declared.fault.AsmFault.{AsmFault}
 use Rattle.venice_asm.specs.declared.fault.AsmFault.TheVariants as answers
@@ -45,7 +45,7 @@ resolved text r new h a = resolves text h.lines r h.reads h.keeps a.all
 all_of : (text : List ℕ) (r : Reading) (new : List Instr) (h : IsEnded text r) → AreResolved r.labels.entries r.references.items r.instrs.items new → IsAll text h.lines r new
 all_of text r new h a = record { lines_are = lines_are_of text h.lines h.reads; keeps = h.keeps; resolved = a }
 
-abbrev pub image_kept : Reading → List Instr → List Entry → Contents
+abbrev pub image_kept : Reading → List Instr → List Entry → ImageContents
 image_kept r new table = record { spad = r.spad; memory = r.memory; arrays = table; code = record { version = r.version; instrs = new } }
 
 -- what is at hand at the end

@@ -12,7 +12,7 @@ use Rattle.venice_isa.specs.Code.{HasTargetBelow, IsCode}
 use Rattle.venice_isa.specs.Encoding.{is_cast, bit, type_number, operation_number, high_type, encoded}
 use Rattle.venice_isa.specs.Mode.{uses_b}
 use Rattle.venice_isa.proofs.KindBytes.{same_kind}
-use Rattle.image_loader.specs.Image.{Contents, IsImage, header_of, raw_entry, raw_entries, magic, header_bytes, table_bytes, spelling}
+use Rattle.image_loader.specs.Image.{ImageContents, IsImage, header_of, raw_entry, raw_entries, magic, header_bytes, table_bytes, spelling}
 use Rattle.image_loader.specs.Table.{Header, TableField, BreaksTable}
 use Rattle.image_loader.proofs.WholeImages.{one_image}
 use Rattle.venice_asm.specs.declared.head.Head.{Head}
@@ -199,20 +199,20 @@ same_instrs (x ∷ xs) (y ∷ ys) e =
 
 -- ---- one image
 
-record Alike (one other : Contents) : Type 0 where
+record Alike (one other : ImageContents) : Type 0 where
   version : one.code.version ≡ other.code.version
   spad : one.spad ≡ other.spad
   memory : one.memory ≡ other.memory
   entries : raw_entries one.arrays ≡ raw_entries other.arrays
   instrs : one.code.instrs ≡ other.code.instrs
 
-same_header : (one other : Contents) → Alike one other → header_of one ≡ header_of other
+same_header : (one other : ImageContents) → Alike one other → header_of one ≡ header_of other
 same_header one other a =
     let count : length one.arrays ≡ length other.arrays = sym (length-map one.arrays raw_entry) ∙ ap length a.entries ∙ length-map other.arrays raw_entry in
     let some = ap length a.instrs in
     λ i. record { spad = a.spad i; memory = a.memory i; array_count = count i; instr_count = some i }
 
-same_spelling : (one other : Contents) → Alike one other → spelling one ≡ spelling other
+same_spelling : (one other : ImageContents) → Alike one other → spelling one ≡ spelling other
 unfolding spelling
 same_spelling one other a =
     ap (λ v. magic v ++ (header_bytes (header_of one) ++ (table_bytes (raw_entries one.arrays) ++ flat_map encoded one.code.instrs))) a.version
@@ -220,7 +220,7 @@ same_spelling one other a =
     ∙ ap (λ es. magic other.code.version ++ (header_bytes (header_of other) ++ (table_bytes es ++ flat_map encoded one.code.instrs))) a.entries
     ∙ ap (λ is. magic other.code.version ++ (header_bytes (header_of other) ++ (table_bytes (raw_entries other.arrays) ++ flat_map encoded is))) a.instrs
 
-alike : (lines : List TextLine) (one other : Contents) → AreLines lines → IsImageOf lines one → IsImageOf lines other → Alike one other
+alike : (lines : List TextLine) (one other : ImageContents) → AreLines lines → IsImageOf lines one → IsImageOf lines other → Alike one other
 alike lines one other h p q = record {
   version = p.version ∙ sym q.version;
   spad = one_number lines heads.Spad 2 one.spad other.spad spad_crosses h p.spad q.spad;
@@ -246,7 +246,7 @@ beside : {X Y Z : Type 0} (f : X → Z) (g : Y → Z) (xs : List X) (ys : List Y
 beside f g xs ys k y same is =
     map_there f (slice_get xs k) (g y) (sym (slice_get-map f xs k) ∙ ap (λ zs. slice_get zs k) same ∙ slice_get-map g ys k ∙ ap (option_map g) is)
 
-same_count : (lines : List TextLine) (image : Contents) → IsImageOf lines image → length image.code.instrs ≡ length (instrs_of lines)
+same_count : (lines : List TextLine) (image : ImageContents) → IsImageOf lines image → length image.code.instrs ≡ length (instrs_of lines)
 same_count lines image h = sym (length-map image.code.instrs statement_of) ∙ ap length h.instrs ∙ length-map (instrs_of lines) (with_numbers lines)
 
 abbrev is_halt : Head → Bool
@@ -257,7 +257,7 @@ map_nothing : {X Y : Type 0} (f : X → Y) (xs : List X) → map f xs ≡ [] →
 map_nothing f [] e = refl
 map_nothing f (x ∷ xs) e = let count = ap length e in absurd (omega arith)
 
-image_ends : (lines : List TextLine) (image : Contents) → IsImageOf lines image → IsCode image.code → EndsInHalt lines
+image_ends : (lines : List TextLine) (image : ImageContents) → IsImageOf lines image → IsCode image.code → EndsInHalt lines
 image_ends lines image h code =
     let (s, there, same) = beside (with_numbers lines) statement_of (instrs_of lines) image.code.instrs (length image.code.instrs - 1) Halt (sym h.instrs) code.ends in
     let head : s.head ≡ heads.Halt = ap (λ (x : Statement). x.head) same in
@@ -265,7 +265,7 @@ image_ends lines image h code =
     ap (λ n. slice_get (instrs_of lines) (n - 1)) (sym (same_count lines image h)) ∙ there
     ∙ ap (λ hd. Some (line_of hd s.operands)) head ∙ ap (λ os. Some (line_of heads.Halt os)) none
 
-image_header : (lines : List TextLine) (image : Contents) (header : Header) → AreLines lines → IsImageOf lines image → IsHeaderOf lines header → header ≡ header_of image
+image_header : (lines : List TextLine) (image : ImageContents) (header : Header) → AreLines lines → IsImageOf lines image → IsHeaderOf lines header → header ≡ header_of image
 image_header lines image header are h w =
     let spad = one_number lines heads.Spad 2 header.spad image.spad spad_crosses are w.spad h.spad in
     let memory = one_number lines heads.Memory 3 header.memory image.memory memory_crosses are w.memory h.memory in
@@ -273,7 +273,7 @@ image_header lines image header are h w =
     let instrs : header.instr_count ≡ length image.code.instrs = w.instrs ∙ sym (same_count lines image h) in
     λ i. record { spad = spad i; memory = memory i; array_count = arrays i; instr_count = instrs i }
 
-no_wrong_field : (lines : List TextLine) (image : Contents) (field : TableField) → AreLines lines → IsImageOf lines image → IsImage image → IsWrongField lines field → ⊥
+no_wrong_field : (lines : List TextLine) (image : ImageContents) (field : TableField) → AreLines lines → IsImageOf lines image → IsImage image → IsWrongField lines field → ⊥
 no_wrong_field lines image field are h is w =
     is.table field (subst (λ es. BreaksTable (header_of image) es field) (sym h.arrays) (subst (λ hd. BreaksTable hd (entries_of lines) field) (image_header lines image w.header are h w.is_header) w.breaks))
 
@@ -337,7 +337,7 @@ jump_instr heads.Blt j = refl
 jump_instr heads.Jmp j = refl
 jump_instr head j = let e : false ≡ true = j in absurd (cc)
 
-target_named : (text : List ℕ) (lines : List TextLine) (image : Contents) (target : Operand) (at : ℕ) → IsImageOf lines image → IsCode image.code → IsTargetAt text lines target at → NamesInstr lines target
+target_named : (text : List ℕ) (lines : List TextLine) (image : ImageContents) (target : Operand) (at : ℕ) → IsImageOf lines image → IsCode image.code → IsTargetAt text lines target at → NamesInstr lines target
 target_named text lines image target at h code t = by (is_jump t.head) refl
   where
     by : (b : Bool) → is_jump t.head ≡ b → NamesInstr lines target

@@ -26,7 +26,7 @@ use Rattle.venice_isa.specs.declared.op.VecOp.TheVariants as ops
 use Rattle.venice_isa.specs.Instr.{has_operation, IsInstr}
 use Rattle.venice_isa.specs.Mode.{allows_mode, uses_b}
 use Rattle.venice_isa.specs.Encoding.{is_cast}
-use Rattle.image_loader.specs.Image.{Contents, IsImage, IsTable, header_of, raw_entry, raw_entries}
+use Rattle.image_loader.specs.Image.{ImageContents, IsImage, IsTable, header_of, raw_entry, raw_entries}
 use Rattle.image_loader.specs.Table.{Header, RawEntry, HeaderField, EntryField, Spad, Memory, Instrs, LiesIn, BreaksEntry, array_bytes}
 use Rattle.image_loader.specs.declared.table.EntryPart.{EntryPart}
 use Rattle.image_loader.specs.declared.table.EntryPart.TheVariants as parts
@@ -517,7 +517,7 @@ keeps_numbers header entries k raw table memory is =
     none : (part : EntryPart) → ¬ BreaksEntry header.memory (take k entries) raw part
     none part b = table (EntryField k part) (subst (λ o. IsSomeAnd o (λ entry. BreaksEntry header.memory (take k entries) entry part)) (sym is) b)
 
-arrays_keep : (image : Contents) → IsImage image → image.memory ≤ number_limit → All IsWrittenArray image.arrays
+arrays_keep : (image : ImageContents) → IsImage image → image.memory ≤ number_limit → All IsWrittenArray image.arrays
 arrays_keep image h memory k d lt =
     let entry = get_or image.arrays k d in
     let is : slice_get (raw_entries image.arrays) k ≡ Some (raw_entry entry) = slice_get-map raw_entry image.arrays k ∙ ap (option_map raw_entry) (slice_get-get_or image.arrays k d lt) in
@@ -627,7 +627,7 @@ canonical_denotes image h =
     nothing_at k name e = absurd (cc)
 
 -- the text is pushed part by part
-pub canonical_is : (image : Contents) → (statements_text (head_statements image.code.version image.spad image.memory) ++ statements_text (map array_statement image.arrays)) ++ statements_text (map statement_of image.code.instrs) ≡ canonical image
+pub canonical_is : (image : ImageContents) → (statements_text (head_statements image.code.version image.spad image.memory) ++ statements_text (map array_statement image.arrays)) ++ statements_text (map statement_of image.code.instrs) ≡ canonical image
 unfolding canonical
 canonical_is image =
     let start = head_statements image.code.version image.spad image.memory in

@@ -10,7 +10,7 @@ use Rattle.venice_isa.specs.declared.instr.Instr.TheVariants.{Halt, Li, Addi, Ad
 use Rattle.venice_isa.specs.declared.kind.VecKind.{VecKind}
 use Rattle.venice_isa.specs.Mode.{uses_b}
 use Rattle.venice_isa.specs.Encoding.{is_cast}
-use Rattle.image_loader.specs.Image.{Contents}
+use Rattle.image_loader.specs.Image.{ImageContents}
 use Rattle.venice_asm.specs.declared.head.Head.{Head}
 use Rattle.venice_asm.specs.declared.head.Head.TheVariants as heads
 use Rattle.venice_asm.specs.declared.operand.Operand.{Operand}
@@ -73,7 +73,7 @@ head_statements version spad memory =
     ++ (line_of heads.Spad (Number spad ∷ []) ∷ line_of heads.Memory (Number memory ∷ []) ∷ [])
 
 -- these, the arrays and the instructions
-abbrev pub image_statements : Contents → List Statement
+abbrev pub image_statements : ImageContents → List Statement
 image_statements image =
     head_statements image.code.version image.spad image.memory
     ++ (map array_statement image.arrays ++ map statement_of image.code.instrs)
@@ -115,5 +115,5 @@ statements_text statements = flat_map statement_text statements
 abbrev pub head_text : Version → (spad memory : ℕ) → List ℕ
 head_text version spad memory = statements_text (head_statements version spad memory)
 
-unfoldable pub canonical : Contents → List ℕ
+unfoldable pub canonical : ImageContents → List ℕ
 canonical image = statements_text (image_statements image)

@@ -8,7 +8,7 @@ use Rattle.ven_io.specs.declared.token.TokenKind.TheVariants.{End}
 use Rattle.ven_io.specs.Token.{bytes_of}
 use Rattle.ven_io.specs.Reader.{Begins}
 use Rattle.ven_io.specs.Tokens.{TokensTo, IsBehind, place_of}
-use Rattle.image_loader.specs.Image.{Contents, IsImage}
+use Rattle.image_loader.specs.Image.{ImageContents, IsImage}
 use Rattle.image_loader.specs.Table.{Header, TableField, BreaksTable, field_place, instr_limit}
 use Rattle.venice_asm.specs.declared.fault.AsmFault.{AsmFault}
 use Rattle.venice_asm.specs.declared.fault.AsmFault.TheVariants as answers
@@ -45,7 +45,7 @@ pub record Reads (text : List ℕ) (lines : List TextLine) : Type 0 where
   pub apart : AreApart (label_names lines)
 
 -- the text's lines are this image's, labels replaced by instruction numbers
-pub record DenotesImage (text : List ℕ) (image : Contents) : Type 0 where
+pub record DenotesImage (text : List ℕ) (image : ImageContents) : Type 0 where
   pub lines : List TextLine
   pub reads : Reads text lines
   pub is_of : IsImageOf lines image

@@ -4,7 +4,7 @@ use Rattle.std.specs.List.{filter, filter_map}
 use Rattle.std.specs.Option.{option_map_or, IsSomeAnd}
 use Rattle.std.specs.Str.{bytes_eq}
 use Rattle.venice_isa.specs.Encoding.{bit, type_number}
-use Rattle.image_loader.specs.Image.{Contents, raw_entries}
+use Rattle.image_loader.specs.Image.{ImageContents, raw_entries}
 use Rattle.image_loader.specs.Table.{Header, RawEntry}
 use Rattle.venice_asm.specs.declared.head.Head.{Head}
 use Rattle.venice_asm.specs.declared.head.Head.TheVariants as heads
@@ -87,7 +87,7 @@ with_numbers lines s = record { head = s.head; operands = map (with_number lines
 -- ---- the image and its header
 
 -- the image has the numbers, the arrays and the instructions of the lines, labels replaced by instruction numbers
-pub record IsImageOf (lines : List TextLine) (image : Contents) : Type 0 where
+pub record IsImageOf (lines : List TextLine) (image : ImageContents) : Type 0 where
   pub spad : HasNumber lines heads.Spad image.spad
   pub memory : HasNumber lines heads.Memory image.memory
   pub arrays : raw_entries image.arrays ≡ entries_of lines

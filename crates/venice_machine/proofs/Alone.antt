@@ -14,7 +14,7 @@ use Rattle.venice_machine.specs.declared.stop.End.{End}
 use Rattle.venice_machine.specs.State.{Setup, State, unfinished_count}
 use Rattle.venice_machine.specs.Step.{TheHost, TheUnit, can_step, after_step}
 use Rattle.venice_machine.specs.Run.{all_units, in_order, after_turn, after_turns, after_cycle}
-use Rattle.venice_machine.specs.Machine.{Contents, Shows}
+use Rattle.venice_machine.specs.Machine.{MachineContents, Shows}
 use Rattle.venice_machine.specs.Kept.{AllNumbered, waiting_in, counted, after_chance}
 use Rattle.venice_machine.proofs.Runs.{both_true}
 use Rattle.venice_machine.proofs.Shown.{lanes_count, reads_count, writes_count}
@@ -45,9 +45,9 @@ moves_is Moves e = refl
 moves_is Halts e = cc
 moves_is (Passes issue) e = cc
 
-module _ (machine : Contents) (numbered : AllNumbered machine.queues) (most : ℕ) (going : machine.end ≡ None) (more : machine.steps < most)
+module _ (machine : MachineContents) (numbered : AllNumbered machine.queues) (most : ℕ) (going : machine.end ≡ None) (more : machine.steps < most)
     (idle : is_idle (waiting_in None machine.queues) ≡ true) where
-  abbrev counted_machine : Contents
+  abbrev counted_machine : MachineContents
   counted_machine = record machine { cycles = machine.cycles + 1 }
 
   abbrev what : Deed
@@ -57,7 +57,7 @@ module _ (machine : Contents) (numbered : AllNumbered machine.queues) (most : �
   waiting = waiting_in (wanted_by what) machine.queues
 
   module _ (host : HostState) (moving : moves what ≡ true) (on : host_of host ≡ next machine.setup.code.instrs (host_of machine.host)) where
-    abbrev moved : Contents
+    abbrev moved : MachineContents
     moved = counted most (record counted_machine { host = host })
 
     is_moved : step_of waiting what ≡ Moved
@@ -81,7 +81,7 @@ module _ (machine : Contents) (numbered : AllNumbered machine.queues) (most : �
         (writes_count machine.queues after.jobs shown.jobs numbered ∙ zero_is _ parts.1)))
         shown
 
-    pub host_alone : (new : Contents) → new ≡ moved → (state : State) → Shows machine state → Shows new (after_cycle machine.setup most all_units state)
+    pub host_alone : (new : MachineContents) → new ≡ moved → (state : State) → Shows machine state → Shows new (after_cycle machine.setup most all_units state)
     host_alone new is state shows =
         cycle_shown machine most all_units going more state shows new
         (λ state shows. subst (λ new. Shows new (after_turns machine.setup most all_units in_order state)) (sym is) (turns_shown state shows))

@@ -16,7 +16,7 @@ use Rattle.venice_machine.specs.Step.{Mover, TheHost, TheUnit, may_go_on, can_st
 use Rattle.venice_machine.specs.Run.{is_set, bit_of, is_second, all_units, in_order, after_turn, after_turns, after_cycle, after_cycles}
 use Rattle.venice_machine.specs.Units.{bits_of_turns, units_of, cycle_answer}
 use Rattle.venice_machine.specs.declared.stop.Cycle.{Cycle}
-use Rattle.venice_machine.specs.Machine.{Contents, Shows}
+use Rattle.venice_machine.specs.Machine.{MachineContents, Shows}
 use Rattle.venice_machine.proofs.Divided.{AreWorks, length_of_units}
 use Rattle.venice_machine.proofs.Runs.{either, step_cases, is_none_true}
 
@@ -198,8 +198,8 @@ pub none_is : (end : Option End) → false ≡ is_some end → end ≡ None
 none_is None e = refl
 none_is (Some end) e = cc
 
-module _ (machine : Contents) (most grant : ℕ) (going : machine.end ≡ None) (more : machine.steps < most) where
-  abbrev counted_machine : Contents
+module _ (machine : MachineContents) (most grant : ℕ) (going : machine.end ≡ None) (more : machine.steps < most) where
+  abbrev counted_machine : MachineContents
   counted_machine = record machine { cycles = machine.cycles + 1 }
 
   module _ (state : State) (shows : Shows machine state) where
@@ -212,10 +212,10 @@ module _ (machine : Contents) (most grant : ℕ) (going : machine.end ≡ None) 
     state_more : nat_le most state.steps ≡ false
     state_more = ap (nat_le most) shows.steps ∙ lt-leb most machine.steps more
 
-    pub cycle_shown : (new : Contents) → ((state : State) → Shows counted_machine state → Shows new (after_turns machine.setup most grant in_order state)) → Shows new (after_cycle machine.setup most grant state)
+    pub cycle_shown : (new : MachineContents) → ((state : State) → Shows counted_machine state → Shows new (after_turns machine.setup most grant in_order state)) → Shows new (after_cycle machine.setup most grant state)
     cycle_shown new turns = subst (Shows new) (sym (going_cycle machine.setup most grant state state_going state_more)) (turns (counted_cycle machine.setup most state) next_shown)
 
-    pub cycle_answered : (new : Contents) (units : ℕ) (answer : Cycle) → ((state : State) → Shows counted_machine state → Shows new (after_turns machine.setup most grant in_order state))
+    pub cycle_answered : (new : MachineContents) (units : ℕ) (answer : Cycle) → ((state : State) → Shows counted_machine state → Shows new (after_turns machine.setup most grant in_order state))
         → ((state : State) → Shows counted_machine state → units ≡ bits_of_turns machine.setup most grant in_order state)
         → answer ≡ cycle_answer new.end units → answer ≡ cycle_answer (after_cycle machine.setup most grant state).end (units_of machine.setup most grant state)
     cycle_answered new units answer turns bits is =

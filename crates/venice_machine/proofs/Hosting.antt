@@ -18,7 +18,7 @@ use Rattle.venice_machine.specs.declared.stop.Stop.{Stop}
 use Rattle.venice_machine.specs.declared.stop.End.TheVariants.{Halted, Stopped}
 use Rattle.venice_machine.specs.State.{State}
 use Rattle.venice_machine.specs.Step.{TheHost, may_go_on as may_step, stop_before, with_step, with_host_on, with_work, at_halt, after_deed, after_attempt}
-use Rattle.venice_machine.specs.Machine.{Queues, Contents, ShowsJobs, Shows}
+use Rattle.venice_machine.specs.Machine.{Queues, MachineContents, ShowsJobs, Shows}
 use Rattle.venice_machine.specs.Kept.{AllNumbered, HasPlaceFor, queues_with, waiting_in, counted, after_chance}
 use Rattle.venice_machine.proofs.Shown.{host_may, issue_shown}
 use Rattle.venice_machine.proofs.Turning.{step_shown}
@@ -115,7 +115,7 @@ has_place wanted queues what issue is = go (told (waiting_in wanted queues) what
 
 -- ---- the machine's host
 
-module _ (machine : Contents) (numbered : AllNumbered machine.queues) (most : ℕ) where
+module _ (machine : MachineContents) (numbered : AllNumbered machine.queues) (most : ℕ) where
   abbrev what : Deed
   what = deed machine.setup.code.instrs (host_of machine.host)
 
@@ -172,7 +172,7 @@ module _ (machine : Contents) (numbered : AllNumbered machine.queues) (most : �
         ∙ sym (on ∙ ap (λ b. cond b (next machine.setup.code.instrs (host_of machine.host)) (host_of machine.host)) may)
 
     on_shown : may_go_on waiting what ≡ true → (host : HostState) → host_of host ≡ host_after waiting machine.setup.code.instrs (host_of machine.host)
-        → (new : Contents) → new ≡ counted most (record machine { host = host }) → Shows new (with_step most (with_host_on machine.setup state))
+        → (new : MachineContents) → new ≡ counted most (record machine { host = host }) → Shows new (with_step most (with_host_on machine.setup state))
     on_shown may host on new new_is =
         subst (λ new. Shows new (with_step most (with_host_on machine.setup state))) (sym new_is)
         (step_shown most (record machine { host = host }) (with_host_on machine.setup state)
@@ -184,7 +184,7 @@ module _ (machine : Contents) (numbered : AllNumbered machine.queues) (most : �
         ∙ ap (λ b. cond b (with_step most (with_work machine.setup issue state)) (with_step most (with_host_on machine.setup state))) isnt
 
     pub moved_shown : step_of waiting what ≡ Moved → (host : HostState) → host_of host ≡ host_after waiting machine.setup.code.instrs (host_of machine.host)
-        → (new : Contents) → new ≡ counted most (record machine { host = host }) → Shows new (After state)
+        → (new : MachineContents) → new ≡ counted most (record machine { host = host }) → Shows new (After state)
     moved_shown is host on new new_is = go (told waiting what)
       where
         go : IsStep waiting what (step_of waiting what) → Shows new (After state)
@@ -236,7 +236,7 @@ module _ (machine : Contents) (numbered : AllNumbered machine.queues) (most : �
     }
 
     pub issued_shown : (issue : Issue) → step_of waiting what ≡ Issued issue → stop_before machine.setup issue state ≡ None → (host : HostState) → host_of host ≡ host_after waiting machine.setup.code.instrs (host_of machine.host)
-        → (new : Contents) → new ≡ counted most (record machine { host = host; queues = queues_with issue (machine.issues + 1) machine.queues; issues = machine.issues + 1 }) → Shows new (After state)
+        → (new : MachineContents) → new ≡ counted most (record machine { host = host; queues = queues_with issue (machine.issues + 1) machine.queues; issues = machine.issues + 1 }) → Shows new (After state)
     issued_shown issue is none host on new new_is =
         let it = issues_it issue is in
         subst (Shows new)

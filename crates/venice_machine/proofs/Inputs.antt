@@ -21,9 +21,9 @@ use Rattle.venice_isa.specs.Element.{number_of}
 use Rattle.image_loader.specs.Table.{elem_of, array_bytes as table_bytes, memory_limit, array_limit, HeaderField, EntryField, Memory, Arrays, RawEntry, LiesIn, BreaksEntry}
 use Rattle.image_loader.specs.declared.table.EntryPart.TheVariants.{NameLength, NameBytes, Rows, Columns, Place}
 use Rattle.image_loader.specs.declared.table.EntryPart.{EntryPart}
-use Rattle.image_loader.specs.Image.{raw_entry, raw_entries, Contents, IsImage}
+use Rattle.image_loader.specs.Image.{raw_entry, raw_entries, ImageContents, IsImage}
 use Rattle.array_file.specs.Fitting.{Fits}
-use Rattle.venice_machine.specs.Start.{array_bytes, with_array, with_inputs, array_in, element_in}
+use Rattle.venice_machine.specs.Start.{array_bytes, with_grid_bytes, with_inputs, array_in, element_in}
 use Rattle.venice_machine.specs.Inside.{AllStandIn}
 use Rattle.venice_machine.proofs.Stretches.{bytes_length}
 
@@ -33,7 +33,7 @@ pub record IsLeft (table : List Entry) (inputs : Pairs) (index : ℕ) (before me
   pub left : with_inputs (drop index table) inputs memory ≡ with_inputs table inputs before
 
 pub one_input : (table : List Entry) (inputs : Pairs) (index : ℕ) (before memory after : List ℕ) (entry : Entry) → index < length table → entry ≡ get_or table index entry
-    → after ≡ cond entry.output memory (with_array (array_named inputs entry.name) entry.place memory) → length after ≡ length memory
+    → after ≡ cond entry.output memory (with_grid_bytes (array_named inputs entry.name) entry.place memory) → length after ≡ length memory
     → IsLeft table inputs index before memory → IsLeft table inputs (index + 1) before after
 one_input table inputs index before memory after entry below is puts same left = record {
   same = same ∙ left.same;
@@ -62,13 +62,13 @@ is_array inputs name array pairs there =
     subst IsGrid at (pairs.arrays k array below)
 
 -- what an image says of its table and its memory
-pub memory_few : (image : Contents) → IsImage image → image.memory ≤ memory_limit
+pub memory_few : (image : ImageContents) → IsImage image → image.memory ≤ memory_limit
 memory_few image is = elim (cases_lt memory_limit image.memory) [
   | inl more ↦ absurd (is.table (HeaderField Memory) (λ lies. omega (arith, lies.to, more)))
   | inr few ↦ few
 ]
 
-pub stand_in : (image : Contents) → IsImage image → AllStandIn image.memory image.arrays
+pub stand_in : (image : ImageContents) → IsImage image → AllStandIn image.memory image.arrays
 stand_in image is k d below = elim (cases_lt image.memory (place_end (get_or image.arrays k d))) [
   | inl more ↦ absurd (is.table (EntryField k Place) (subst (λ (o : Option RawEntry). IsSomeAnd o (λ entry. BreaksEntry image.memory (take k (raw_entries image.arrays)) entry Place)) (sym there) (inl more)))
   | inr few ↦ few
@@ -137,7 +137,7 @@ lies least most n not_out = elim (cases_lt n least) [
   ]
 ]
 
-module _ (image : Contents) (is : IsImage image) where
+module _ (image : ImageContents) (is : IsImage image) where
   raw_there : (k : ℕ) (d : Entry) → k < length image.arrays → slice_get (raw_entries image.arrays) k ≡ Some (raw_entry (get_or image.arrays k d))
   raw_there k d below = slice_get-map raw_entry image.arrays k ∙ ap (option_map raw_entry) (slice_get-get_or image.arrays k d below)
 

@@ -15,7 +15,7 @@ use Rattle.venice_machine.specs.declared.stop.Stop.TheVariants.{Budget}
 use Rattle.venice_machine.specs.declared.stop.End.TheVariants.{Stopped}
 use Rattle.venice_machine.specs.State.{Setup, State, Jobs, unfinished_count, number_at, unit_numbered}
 use Rattle.venice_machine.specs.Step.{TheUnit, is_hazard, stop_before, with_step, chosen_place, after_beat}
-use Rattle.venice_machine.specs.Machine.{Queues, Contents, ShowsJobs, Shows}
+use Rattle.venice_machine.specs.Machine.{Queues, MachineContents, ShowsJobs, Shows}
 use Rattle.venice_machine.specs.Kept.{AllNumbered, AllLieIn, place_chosen, beat_of, first_bit, second_bits, unit_bits, unit_course, works_after_beat, front_in, hazard_of, stop_of, counted, after_chance}
 use Rattle.venice_machine.specs.declared.beat.Beat.{Beat}
 use Rattle.venice_machine.specs.declared.beat.Beat.TheVariants.{Nothing, First, Second}
@@ -25,13 +25,13 @@ use Rattle.venice_machine.proofs.Hazards.{hazard_is}
 
 -- ---- what it shows
 
-pub front_answer : (machine : Contents) → AllNumbered machine.queues → (unit : ℕ) (answer : Option ℕ) → answer ≡ front_in unit machine.queues
+pub front_answer : (machine : MachineContents) → AllNumbered machine.queues → (unit : ℕ) (answer : Option ℕ) → answer ≡ front_in unit machine.queues
     → (state : State) → Shows machine state → answer ≡ number_at (unit_numbered unit) 0 state.jobs
 front_answer machine numbered unit answer is state shows = is ∙ sym (front_shown machine.queues state.jobs shows.jobs numbered unit)
 
 -- ---- stops
 
-pub stop_shown : (machine : Contents) → AllNumbered machine.queues → (issue : Issue) → IsTrue (is_work issue) → (state : State) → Shows machine state
+pub stop_shown : (machine : MachineContents) → AllNumbered machine.queues → (issue : Issue) → IsTrue (is_work issue) → (state : State) → Shows machine state
     → stop_before machine.setup issue state
     ≡ stop_of machine.host.place machine.cycles (has_counts issue) (is_in_range (store_size (store_of machine.cells machine.memory)) issue) (hazard_of machine.setup.code.version issue machine.queues)
 stop_shown machine numbered issue is state shows =
@@ -53,7 +53,7 @@ none_in_range place cycles false range hazard is = cc
 
 -- ---- steps
 
-pub step_shown : (most : ℕ) (machine : Contents) (state : State) → Shows machine state → Shows (counted most machine) (with_step most state)
+pub step_shown : (most : ℕ) (machine : MachineContents) (state : State) → Shows machine state → Shows (counted most machine) (with_step most state)
 step_shown most machine state shows = record {
   host = shows.host;
   jobs = shows.jobs;
@@ -139,7 +139,7 @@ bits_same unit true more = refl
 bits_same unit false true = refl
 bits_same unit false false = refl
 
-module _ (machine : Contents) (numbered : AllNumbered machine.queues) (second : Bool) (state : State) (shows : Shows machine state) where
+module _ (machine : MachineContents) (numbered : AllNumbered machine.queues) (second : Bool) (state : State) (shows : Shows machine state) where
   abbrev may : Bool
   may = overtakes machine.setup.code.version ReadChannel && second
 
@@ -159,7 +159,7 @@ module _ (machine : Contents) (numbered : AllNumbered machine.queues) (second : 
       ∙ ap (λ n. cond (n == 0) 0 (cond (place_chosen may (length machine.queues.writes.jobs) == 1) (second_bits WriteChannel) (first_bit WriteChannel))) count
       ∙ bits_same WriteChannel (length machine.queues.writes.jobs == 0) (may && nat_lt 1 (length machine.queues.writes.jobs))
 
-module _ (machine : Contents) (numbered : AllNumbered machine.queues) (k : ℕ) (cells : List Cell) (memory : List ℕ) (state : State) (shows : Shows machine state) where
+module _ (machine : MachineContents) (numbered : AllNumbered machine.queues) (k : ℕ) (cells : List Cell) (memory : List ℕ) (state : State) (shows : Shows machine state) where
   abbrev here : Store
   here = store_of machine.cells machine.memory
 
@@ -215,7 +215,7 @@ none_left course k numbers (job ∷ jobs) store none same = absurd (omega (arith
 
 -- ---- a channel's turn
 
-module _ (machine : Contents) (numbered : AllNumbered machine.queues) (second : Bool) (most : ℕ) (cells : List Cell) (memory : List ℕ) where
+module _ (machine : MachineContents) (numbered : AllNumbered machine.queues) (second : Bool) (most : ℕ) (cells : List Cell) (memory : List ℕ) where
   abbrev second_read : ℕ
   second_read = place_chosen (overtakes machine.setup.code.version ReadChannel && second) (length machine.queues.reads.jobs)
 
@@ -225,16 +225,16 @@ module _ (machine : Contents) (numbered : AllNumbered machine.queues) (second : 
   abbrev store_here : Store
   store_here = store_of machine.cells machine.memory
 
-  abbrev read_machine : Contents
+  abbrev read_machine : MachineContents
   read_machine = record machine { queues = record machine.queues { reads = works_after_beat (unit_course Read machine.setup.lane_count) second_read machine.queues.reads store_here }; cells = cells; memory = memory }
 
-  abbrev write_machine : Contents
+  abbrev write_machine : MachineContents
   write_machine = record machine { queues = record machine.queues { writes = works_after_beat (unit_course Write machine.setup.lane_count) second_write machine.queues.writes store_here }; cells = cells; memory = memory }
 
-  abbrev lane_machine : Contents
+  abbrev lane_machine : MachineContents
   lane_machine = record machine { queues = record machine.queues { lanes = works_after_beat (unit_course Vector machine.setup.lane_count) 0 machine.queues.lanes store_here }; cells = cells; memory = memory }
 
-  pub lane_turned : (new : Contents) → store_of cells memory ≡ store_beaten (unit_course Vector machine.setup.lane_count) 0 machine.queues.lanes.jobs store_here → 0 < length machine.queues.lanes.jobs
+  pub lane_turned : (new : MachineContents) → store_of cells memory ≡ store_beaten (unit_course Vector machine.setup.lane_count) 0 machine.queues.lanes.jobs store_here → 0 < length machine.queues.lanes.jobs
       → new ≡ counted most lane_machine → (state : State) → Shows machine state → Shows new (after_chance machine.setup most second (TheUnit Lanes) state)
   lane_turned new after some is state shows =
       let can : nat_lt 0 (unfinished_count Lanes state.jobs) ≡ true = rw (lanes_count machine.queues state.jobs shows.jobs numbered) (lt-ltb 0 (length machine.queues.lanes.jobs) some) in
@@ -242,7 +242,7 @@ module _ (machine : Contents) (numbered : AllNumbered machine.queues) (second : 
       (subst (Shows (counted most lane_machine)) (sym (lanes_turn machine.setup most second state can))
       (step_shown most lane_machine (after_beat machine.setup Lanes 0 state) (lanes_shown machine numbered 0 cells memory state shows after some)))
 
-  pub read_turned : (new : Contents) → store_of cells memory ≡ store_beaten (unit_course Read machine.setup.lane_count) second_read machine.queues.reads.jobs store_here → 0 < length machine.queues.reads.jobs
+  pub read_turned : (new : MachineContents) → store_of cells memory ≡ store_beaten (unit_course Read machine.setup.lane_count) second_read machine.queues.reads.jobs store_here → 0 < length machine.queues.reads.jobs
       → new ≡ counted most read_machine → (state : State) → Shows machine state → Shows new (after_chance machine.setup most second (TheUnit ReadChannel) state)
   read_turned new after some is state shows =
       let count = reads_count machine.queues state.jobs shows.jobs numbered in
@@ -253,7 +253,7 @@ module _ (machine : Contents) (numbered : AllNumbered machine.queues) (second : 
       (step_shown most read_machine (after_beat machine.setup ReadChannel second_read state)
       (reads_shown machine numbered second_read cells memory state shows after (chosen_below (overtakes machine.setup.code.version ReadChannel && second) (length machine.queues.reads.jobs) some))))
 
-  pub write_turned : (new : Contents) → store_of cells memory ≡ store_beaten (unit_course Write machine.setup.lane_count) second_write machine.queues.writes.jobs store_here → 0 < length machine.queues.writes.jobs
+  pub write_turned : (new : MachineContents) → store_of cells memory ≡ store_beaten (unit_course Write machine.setup.lane_count) second_write machine.queues.writes.jobs store_here → 0 < length machine.queues.writes.jobs
       → new ≡ counted most write_machine → (state : State) → Shows machine state → Shows new (after_chance machine.setup most second (TheUnit WriteChannel) state)
   write_turned new after some is state shows =
       let count = writes_count machine.queues state.jobs shows.jobs numbered in
@@ -300,18 +300,18 @@ module _ (machine : Contents) (numbered : AllNumbered machine.queues) (second : 
 
 -- ---- the same of what the code has chosen
 
-module _ (machine : Contents) (numbered : AllNumbered machine.queues) (second : Bool) (most : ℕ) where
-  abbrev read_with : (chosen : Bool) → List Cell → List ℕ → Contents
+module _ (machine : MachineContents) (numbered : AllNumbered machine.queues) (second : Bool) (most : ℕ) where
+  abbrev read_with : (chosen : Bool) → List Cell → List ℕ → MachineContents
   read_with chosen cells memory = record machine { queues = record machine.queues { reads = works_after_beat (unit_course Read machine.setup.lane_count) (place_chosen chosen (length machine.queues.reads.jobs)) machine.queues.reads (store_of machine.cells machine.memory) }; cells = cells; memory = memory }
 
   abbrev read_store : (chosen : Bool) → Store
   read_store chosen = store_beaten (unit_course Read machine.setup.lane_count) (place_chosen chosen (length machine.queues.reads.jobs)) machine.queues.reads.jobs (store_of machine.cells machine.memory)
 
-  pub read_idle_by : (chosen : Bool) → chosen ≡ (overtakes machine.setup.code.version ReadChannel && second) → (beaten : Contents) → beaten ≡ read_with chosen beaten.cells beaten.memory
+  pub read_idle_by : (chosen : Bool) → chosen ≡ (overtakes machine.setup.code.version ReadChannel && second) → (beaten : MachineContents) → beaten ≡ read_with chosen beaten.cells beaten.memory
       → store_of beaten.cells beaten.memory ≡ read_store chosen → beat_of chosen (length machine.queues.reads.jobs) ≡ Nothing
       → (state : State) → Shows machine state → Shows beaten (after_chance machine.setup most second (TheUnit ReadChannel) state)
   read_idle_by chosen e =
-      subst (λ chosen. (beaten : Contents) → beaten ≡ read_with chosen beaten.cells beaten.memory
+      subst (λ chosen. (beaten : MachineContents) → beaten ≡ read_with chosen beaten.cells beaten.memory
       → store_of beaten.cells beaten.memory ≡ read_store chosen → beat_of chosen (length machine.queues.reads.jobs) ≡ Nothing
       → (state : State) → Shows machine state → Shows beaten (after_chance machine.setup most second (TheUnit ReadChannel) state)) (sym e)
       (λ beaten works after nothing state shows.
@@ -319,12 +319,12 @@ module _ (machine : Contents) (numbered : AllNumbered machine.queues) (second : 
       (read_idle machine numbered second most beaten.cells beaten.memory after
       (none_beaten (overtakes machine.setup.code.version ReadChannel && second) (length machine.queues.reads.jobs) nothing) state shows))
 
-  pub read_turned_by : (chosen : Bool) → chosen ≡ (overtakes machine.setup.code.version ReadChannel && second) → (beaten : Contents) → beaten ≡ read_with chosen beaten.cells beaten.memory
-      → store_of beaten.cells beaten.memory ≡ read_store chosen → 0 < length machine.queues.reads.jobs → (new : Contents) → new ≡ counted most beaten
+  pub read_turned_by : (chosen : Bool) → chosen ≡ (overtakes machine.setup.code.version ReadChannel && second) → (beaten : MachineContents) → beaten ≡ read_with chosen beaten.cells beaten.memory
+      → store_of beaten.cells beaten.memory ≡ read_store chosen → 0 < length machine.queues.reads.jobs → (new : MachineContents) → new ≡ counted most beaten
       → (state : State) → Shows machine state → Shows new (after_chance machine.setup most second (TheUnit ReadChannel) state)
   read_turned_by chosen e =
-      subst (λ chosen. (beaten : Contents) → beaten ≡ read_with chosen beaten.cells beaten.memory
-      → store_of beaten.cells beaten.memory ≡ read_store chosen → 0 < length machine.queues.reads.jobs → (new : Contents) → new ≡ counted most beaten
+      subst (λ chosen. (beaten : MachineContents) → beaten ≡ read_with chosen beaten.cells beaten.memory
+      → store_of beaten.cells beaten.memory ≡ read_store chosen → 0 < length machine.queues.reads.jobs → (new : MachineContents) → new ≡ counted most beaten
       → (state : State) → Shows machine state → Shows new (after_chance machine.setup most second (TheUnit ReadChannel) state)) (sym e)
       (λ beaten works after some new is state shows.
       read_turned machine numbered second most beaten.cells beaten.memory new after some (is ∙ ap (counted most) works) state shows)
@@ -334,17 +334,17 @@ module _ (machine : Contents) (numbered : AllNumbered machine.queues) (second : 
   read_bits_by chosen e beat is state shows =
       ap (bits_of_beat ReadChannel) (is ∙ ap (λ chosen. beat_of chosen (length machine.queues.reads.jobs)) e) ∙ sym (read_bits machine numbered second state shows)
 
-  abbrev write_with : (chosen : Bool) → List Cell → List ℕ → Contents
+  abbrev write_with : (chosen : Bool) → List Cell → List ℕ → MachineContents
   write_with chosen cells memory = record machine { queues = record machine.queues { writes = works_after_beat (unit_course Write machine.setup.lane_count) (place_chosen chosen (length machine.queues.writes.jobs)) machine.queues.writes (store_of machine.cells machine.memory) }; cells = cells; memory = memory }
 
   abbrev write_store : (chosen : Bool) → Store
   write_store chosen = store_beaten (unit_course Write machine.setup.lane_count) (place_chosen chosen (length machine.queues.writes.jobs)) machine.queues.writes.jobs (store_of machine.cells machine.memory)
 
-  pub write_idle_by : (chosen : Bool) → chosen ≡ (overtakes machine.setup.code.version ReadChannel && second) → (beaten : Contents) → beaten ≡ write_with chosen beaten.cells beaten.memory
+  pub write_idle_by : (chosen : Bool) → chosen ≡ (overtakes machine.setup.code.version ReadChannel && second) → (beaten : MachineContents) → beaten ≡ write_with chosen beaten.cells beaten.memory
       → store_of beaten.cells beaten.memory ≡ write_store chosen → beat_of chosen (length machine.queues.writes.jobs) ≡ Nothing
       → (state : State) → Shows machine state → Shows beaten (after_chance machine.setup most second (TheUnit WriteChannel) state)
   write_idle_by chosen e =
-      subst (λ chosen. (beaten : Contents) → beaten ≡ write_with chosen beaten.cells beaten.memory
+      subst (λ chosen. (beaten : MachineContents) → beaten ≡ write_with chosen beaten.cells beaten.memory
       → store_of beaten.cells beaten.memory ≡ write_store chosen → beat_of chosen (length machine.queues.writes.jobs) ≡ Nothing
       → (state : State) → Shows machine state → Shows beaten (after_chance machine.setup most second (TheUnit WriteChannel) state)) (sym e)
       (λ beaten works after nothing state shows.
@@ -352,12 +352,12 @@ module _ (machine : Contents) (numbered : AllNumbered machine.queues) (second : 
       (write_idle machine numbered second most beaten.cells beaten.memory after
       (none_beaten (overtakes machine.setup.code.version ReadChannel && second) (length machine.queues.writes.jobs) nothing) state shows))
 
-  pub write_turned_by : (chosen : Bool) → chosen ≡ (overtakes machine.setup.code.version ReadChannel && second) → (beaten : Contents) → beaten ≡ write_with chosen beaten.cells beaten.memory
-      → store_of beaten.cells beaten.memory ≡ write_store chosen → 0 < length machine.queues.writes.jobs → (new : Contents) → new ≡ counted most beaten
+  pub write_turned_by : (chosen : Bool) → chosen ≡ (overtakes machine.setup.code.version ReadChannel && second) → (beaten : MachineContents) → beaten ≡ write_with chosen beaten.cells beaten.memory
+      → store_of beaten.cells beaten.memory ≡ write_store chosen → 0 < length machine.queues.writes.jobs → (new : MachineContents) → new ≡ counted most beaten
       → (state : State) → Shows machine state → Shows new (after_chance machine.setup most second (TheUnit WriteChannel) state)
   write_turned_by chosen e =
-      subst (λ chosen. (beaten : Contents) → beaten ≡ write_with chosen beaten.cells beaten.memory
-      → store_of beaten.cells beaten.memory ≡ write_store chosen → 0 < length machine.queues.writes.jobs → (new : Contents) → new ≡ counted most beaten
+      subst (λ chosen. (beaten : MachineContents) → beaten ≡ write_with chosen beaten.cells beaten.memory
+      → store_of beaten.cells beaten.memory ≡ write_store chosen → 0 < length machine.queues.writes.jobs → (new : MachineContents) → new ≡ counted most beaten
       → (state : State) → Shows machine state → Shows new (after_chance machine.setup most second (TheUnit WriteChannel) state)) (sym e)
       (λ beaten works after some new is state shows.
       write_turned machine numbered second most beaten.cells beaten.memory new after some (is ∙ ap (counted most) works) state shows)
@@ -369,15 +369,15 @@ module _ (machine : Contents) (numbered : AllNumbered machine.queues) (second : 
 
 -- ---- what it keeps
 
-module _ (machine : Contents) (second : Bool) (cells : List Cell) (memory : List ℕ) (kept : IsMachine machine)
+module _ (machine : MachineContents) (second : Bool) (cells : List Cell) (memory : List ℕ) (kept : IsMachine machine)
     (same : store_size (store_of cells memory) ≡ store_size (store_of machine.cells machine.memory)) where
-  abbrev lanes_beaten_here : Contents
+  abbrev lanes_beaten_here : MachineContents
   lanes_beaten_here = record machine { queues = record machine.queues { lanes = works_after_beat (unit_course Vector machine.setup.lane_count) 0 machine.queues.lanes (store_of machine.cells machine.memory) }; cells = cells; memory = memory }
 
-  abbrev reads_beaten_here : Contents
+  abbrev reads_beaten_here : MachineContents
   reads_beaten_here = record machine { queues = record machine.queues { reads = works_after_beat (unit_course Read machine.setup.lane_count) (place_chosen second (length machine.queues.reads.jobs)) machine.queues.reads (store_of machine.cells machine.memory) }; cells = cells; memory = memory }
 
-  abbrev writes_beaten_here : Contents
+  abbrev writes_beaten_here : MachineContents
   writes_beaten_here = record machine { queues = record machine.queues { writes = works_after_beat (unit_course Write machine.setup.lane_count) (place_chosen second (length machine.queues.writes.jobs)) machine.queues.writes (store_of machine.cells machine.memory) }; cells = cells; memory = memory }
 
   of_image_still : (image : IsOfImage machine) → length memory ≡ image.image.memory

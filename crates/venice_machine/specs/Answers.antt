@@ -2,7 +2,7 @@
 use Rattle.std.specs.Prelude.{◌≡◌, ℕ, ◌<◌, ◌≤◌, Some, Result, Ok, Err}
 use Rattle.ven_base.specs.Pairs.{Pairs}
 use Rattle.array_file.specs.Fitting.{IsUnfit}
-use Rattle.image_loader.specs.Image.{Contents}
+use Rattle.image_loader.specs.Image.{ImageContents}
 use Rattle.venice_machine.specs.declared.stop.Stop.{Stop}
 use Rattle.venice_machine.specs.declared.stop.Counts.{Counts}
 use Rattle.venice_machine.specs.declared.stop.MakeFault.{MakeFault}
@@ -20,7 +20,7 @@ RunEnds state (Err stop) = state.end ≡ Some (Stopped stop)
 
 -- why there is no machine of an image: the scratchpad is too small; or it isn't, and the inputs don't fit; or memory
 -- ran out
-abbrev pub IsNoMachine : Contents → (spad : ℕ) → (inputs : Pairs) → MakeFault → Type 0
+abbrev pub IsNoMachine : ImageContents → (spad : ℕ) → (inputs : Pairs) → MakeFault → Type 0
 IsNoMachine image spad inputs (SpadTooSmall need have) =
     (spad < image.spad) × (need ≡ image.spad) × (have ≡ spad)
 IsNoMachine image spad inputs (Fit fault) = (image.spad ≤ spad) × IsUnfit inputs image.arrays fault

@@ -3,13 +3,13 @@ use Rattle.std.specs.Prelude.{◌≡◌, ℕ, ◌+◌, ◌<◌, ◌≤◌, List,
 use Rattle.ven_base.specs.Store.{store_of, store_size}
 use Rattle.ven_base.specs.declared.entry.Entry.{Entry}
 use Rattle.image_loader.specs.Table.{array_bytes}
-use Rattle.image_loader.specs.Image.{raw_entry, IsImage, Contents as ImageContents}
+use Rattle.image_loader.specs.Image.{raw_entry, IsImage, ImageContents}
 use Rattle.venice_machine.specs.declared.machine.Machine.TheInside.{Inside as MachineInside}
 use Rattle.venice_machine.specs.Run.{step_limit}
-use Rattle.venice_machine.specs.Machine.{Contents}
+use Rattle.venice_machine.specs.Machine.{MachineContents}
 use Rattle.venice_machine.specs.Kept.{AllNumbered, AllLieIn}
 
-abbrev pub contents_of : MachineInside → Contents
+abbrev pub contents_of : MachineInside → MachineContents
 contents_of machine = record {
   setup = record { code = machine.code; table = machine.table.items; lane_count = machine.works.lane_count };
   host = machine.host;
@@ -27,7 +27,7 @@ abbrev pub AllStandIn : ℕ → List Entry → Type 0
 AllStandIn size table = All (λ entry. entry.place + array_bytes (raw_entry entry) ≤ size) table
 
 -- code, table and memory are those of an image
-pub record IsOfImage (machine : Contents) : Type 0 where
+pub record IsOfImage (machine : MachineContents) : Type 0 where
   pub image : ImageContents
   pub is_image : IsImage image
   pub code_is : machine.setup.code ≡ image.code
@@ -36,7 +36,7 @@ pub record IsOfImage (machine : Contents) : Type 0 where
 
 -- the machine is of an image, every work has its number and lies in cells and memory, the host is in the code, and the
 -- counts have room to grow
-pub record IsMachine (machine : Contents) : Type 0 where
+pub record IsMachine (machine : MachineContents) : Type 0 where
   pub of_image : IsOfImage machine
   pub numbered : AllNumbered machine.queues
   pub in_range : AllLieIn (store_size (store_of machine.cells machine.memory)) machine.queues

@@ -24,7 +24,7 @@ use Rattle.venice_machine.specs.declared.stop.Stop.TheVariants.{Hazard, OutOfRan
 use Rattle.venice_machine.specs.declared.stop.End.TheVariants.{Stopped}
 use Rattle.venice_machine.specs.State.{Setup, State, unfinished_count}
 use Rattle.venice_machine.specs.Step.{Mover, can_step, chosen_place, after_step}
-use Rattle.venice_machine.specs.Machine.{UnitWorks, Queues, Contents}
+use Rattle.venice_machine.specs.Machine.{UnitWorks, Queues, MachineContents}
 
 -- ---- queues
 
@@ -181,18 +181,18 @@ second_bits ReadChannel = 20
 second_bits WriteChannel = 40
 
 -- one step more; with the last that may be made, the run stops
-abbrev pub counted : (most : ℕ) → Contents → Contents
+abbrev pub counted : (most : ℕ) → MachineContents → MachineContents
 counted most machine = record machine {
   steps = machine.steps + 1;
   end = if nat_le most (machine.steps + 1) then Some (Stopped (Budget (machine.steps + 1))) else None;
 }
 
 -- a step may still be made, while the run goes on
-abbrev pub HasRoom : (most : ℕ) → Contents → Type 0
+abbrev pub HasRoom : (most : ℕ) → MachineContents → Type 0
 HasRoom most machine = machine.end ≡ None → machine.steps < most
 
 -- nothing is unfinished, the host's instruction concerns the host alone, and a step may still be made
-pub record IsHostAlone (most : ℕ) (machine : Contents) : Type 0 where
+pub record IsHostAlone (most : ℕ) (machine : MachineContents) : Type 0 where
   pub more : machine.steps < most
   pub idle : IsTrue (is_idle (waiting_in None machine.queues))
   pub moves : IsTrue (moves (deed machine.setup.code.instrs (host_of machine.host)))

@@ -26,7 +26,7 @@ pub record Queues : Type 0 where
   pub writes : UnitWorks DmaWork
 
 -- what stays as it is; the host; the queues; cells and memory; the counts; and how the run has ended, if it has
-pub record Contents : Type 0 where
+pub record MachineContents : Type 0 where
   pub setup : Setup
   pub host : HostState
   pub queues : Queues
@@ -56,7 +56,7 @@ pub record ShowsJobs (queues : Queues) (jobs : Jobs) : Type 0 where
   pub of_writes : queue WriteChannel jobs ≡ jobs_in Write queues.writes
 
 -- the machine shows the state
-pub record Shows (machine : Contents) (state : State) : Type 0 where
+pub record Shows (machine : MachineContents) (state : State) : Type 0 where
   pub host : state.host ≡ host_of machine.host
   pub jobs : ShowsJobs machine.queues state.jobs
   pub store : state.store ≡ store_of machine.cells machine.memory

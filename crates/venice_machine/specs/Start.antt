@@ -10,7 +10,7 @@ use Rattle.ven_base.specs.Store.{store_of}
 use Rattle.venice_isa.specs.Cell.{part, overwritten}
 use Rattle.venice_isa.specs.Element.{bytes_of, number_of}
 use Rattle.venice_isa.specs.Host.{start}
-use Rattle.image_loader.specs.Image.{Contents}
+use Rattle.image_loader.specs.Image.{ImageContents}
 use Rattle.venice_machine.specs.State.{Setup, State}
 
 -- ---- arrays in memory
@@ -20,16 +20,16 @@ abbrev pub array_bytes : Grid → List ℕ
 array_bytes grid = flat_map (bytes_of grid.elem) grid.values
 
 -- memory in which the array stands at a place, if there is one
-abbrev pub with_array : Option Grid → ℕ → List ℕ → List ℕ
-with_array None place memory = memory
-with_array (Some grid) place memory = overwritten memory place (array_bytes grid)
+abbrev pub with_grid_bytes : Option Grid → ℕ → List ℕ → List ℕ
+with_grid_bytes None place memory = memory
+with_grid_bytes (Some grid) place memory = overwritten memory place (array_bytes grid)
 
 -- memory in which each input of the table stands at its place; all else is left alone
 abbrev pub with_inputs : List Entry → Pairs → List ℕ → List ℕ
 with_inputs [] inputs memory = memory
 with_inputs (entry ∷ entries) inputs memory =
     with_inputs entries inputs
-    (if entry.output then memory else with_array (array_named inputs entry.name) entry.place memory)
+    (if entry.output then memory else with_grid_bytes (array_named inputs entry.name) entry.place memory)
 
 -- the number that stands at element k of an entry's array
 abbrev pub element_in : List ℕ → Entry → ℕ → List ℕ
@@ -49,12 +49,12 @@ outputs_in memory table = map (λ entry. (entry.name, array_in memory entry)) (f
 
 -- ---- before the first cycle
 
-abbrev pub setup_of : Contents → (lane_count : ℕ) → Setup
+abbrev pub setup_of : ImageContents → (lane_count : ℕ) → Setup
 setup_of image lane_count = record { code = image.code; table = image.arrays; lane_count = lane_count }
 
 -- all numbers are 0 and nothing is unfinished; so many cells are 0 and their flags clear; memory holds the inputs at
 -- their places, and 0 elsewhere
-abbrev pub start_state : Contents → (inputs : Pairs) → (spad : ℕ) → State
+abbrev pub start_state : ImageContents → (inputs : Pairs) → (spad : ℕ) → State
 start_state image inputs spad = record {
   host = start;
   jobs = [];

@@ -67,10 +67,10 @@ pub struct Machine {
 }
 
 impl Model for Machine {
-    ghost use Rattle.venice_machine.specs.Machine.{Contents};
+    ghost use Rattle.venice_machine.specs.Machine.{MachineContents};
     ghost use Rattle.venice_machine.specs.Inside.{contents_of, IsMachine};
 
-    ghost Value = { Contents };
+    ghost Value = { MachineContents };
 
     ghost view = { contents_of };
 

@@ -7,7 +7,7 @@ use Rattle.ven_base.specs.Extent.{Extent}
 use Rattle.ven_base.specs.Grid.{Grid, IsGrid}
 use Rattle.ven_base.specs.Pairs.{Pairs, ArePairs, arrays_of, array_named}
 use Rattle.ven_base.proofs.NamedArrays.{array_named-pair}
-use Rattle.array_file.specs.Fitting.{Fits, IsInput, HasArray}
+use Rattle.array_file.specs.Fitting.{Fits, IsInput, HasArrayFor}
 use Rattle.shape_check.specs.declared.checked.CheckedStmt.{CheckedStmt}
 use Rattle.shape_check.specs.Checked.{program_of, statement_of}
 use Rattle.shape_check.specs.Meaning.{FitInputs, HasInput}
@@ -26,7 +26,7 @@ named_grid pairs name grid are found =
 
 -- the arrays have what an entry asks for
 abbrev HasEntry : Pairs → Entry → Type 0
-HasEntry arrays entry = (grid : Grid) × HasArray arrays entry grid × (grid.elem ≡ entry.elem) × (grid.shape ≡ entry.shape)
+HasEntry arrays entry = (grid : Grid) × HasArrayFor arrays entry grid × (grid.elem ≡ entry.elem) × (grid.shape ≡ entry.shape)
 
 entries_fit : (program : List Statement) (arrays : Pairs) → ArePairs arrays → ((k : ℕ) (entry : Entry) → IsInput (input_table program) k entry → HasEntry arrays entry) → FitInputs program arrays
 entries_fit [] arrays are has = tt

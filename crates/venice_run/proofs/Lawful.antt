@@ -8,7 +8,7 @@ use Rattle.ven_base.specs.Pairs.{Pairs}
 use Rattle.ven_io.specs.Files.{Behaviour}
 use Rattle.image_loader.specs.declared.fault.ImageFault.{ImageFault}
 use Rattle.image_loader.specs.declared.fault.ImageFault.TheVariants as image_fault
-use Rattle.image_loader.specs.Image.{Contents}
+use Rattle.image_loader.specs.Image.{ImageContents}
 use Rattle.image_loader.specs.Loading.{IsLoading}
 use Rattle.venice_asm.specs.declared.fault.AsmFault.{AsmFault}
 use Rattle.venice_asm.specs.declared.fault.AsmFault.TheVariants as asm_fault
@@ -326,16 +326,16 @@ image_plain A fault is plain = subst (λ (f : ImageFault). IsPlain {A = A} (Err 
 loads_one : (files : Behaviour) (bytes : List ℕ) → Settled files → HasOne image_ending (IsLoading bytes)
 loads_one files bytes sure = record {
   values = λ a b p q. p.only b q.found q.spelled;
-  apart = λ a f p q plain. image_plain Contents f (q.only a p.found p.spelled) plain;
+  apart = λ a f p q plain. image_plain ImageContents f (q.only a p.found p.spelled) plain;
   faults = faults;
 }
   where
-    faults : (f g : ImageFault) → IsLoading bytes (Err f) → IsLoading bytes (Err g) → IsPlain {A = Contents} (Err (image_ending f)) → IsPlain {A = Contents} (Err (image_ending g)) → f ≡ g
+    faults : (f g : ImageFault) → IsLoading bytes (Err f) → IsLoading bytes (Err g) → IsPlain {A = ImageContents} (Err (image_ending f)) → IsPlain {A = ImageContents} (Err (image_ending g)) → f ≡ g
     faults f g p q pf pg =
         elim p.fault [
-          | inl memory ↦ absurd (image_plain Contents f memory pf)
+          | inl memory ↦ absurd (image_plain ImageContents f memory pf)
           | inr first ↦ elim (q.exact f first) [
-            | inl memory ↦ absurd (image_plain Contents g memory pg)
+            | inl memory ↦ absurd (image_plain ImageContents g memory pg)
             | inr same ↦ sym same
           ]
         ]
@@ -377,8 +377,8 @@ text_refused A text fault is plain = is
 assembles_one : (files : Behaviour) (text : List ℕ) → Settled files → HasOne assembler_ending (Assembles text)
 assembles_one files text sure = record {
   values = sure.texts text;
-  apart = λ a f p q plain. sure.at_text_faults text a f p (text_refused Contents text f q plain);
-  faults = λ f g p q pf pg. sure.text_answers text f g (text_refused Contents text f p pf) (text_refused Contents text g q pg);
+  apart = λ a f p q plain. sure.at_text_faults text a f p (text_refused ImageContents text f q plain);
+  faults = λ f g p q pf pg. sure.text_answers text f g (text_refused ImageContents text f p pf) (text_refused ImageContents text g q pg);
 }
 
 assembled_lawful : (files : Behaviour) (text : List ℕ) → Lawful files (assembled text)

@@ -4,7 +4,7 @@ use Rattle.ven_base.specs.declared.entry.Entry.{Entry}
 use Rattle.ven_base.specs.Pairs.{Pairs}
 use Rattle.ven_io.specs.Files.{Behaviour}
 use Rattle.array_file.specs.Output.{arrays_text}
-use Rattle.image_loader.specs.Image.{Contents}
+use Rattle.image_loader.specs.Image.{ImageContents}
 use Rattle.venice_machine.specs.declared.stop.Counts.{Counts}
 use Rattle.venice_machine.specs.Answers.{counts_of, RunEnds}
 use Rattle.venice_machine.specs.Run.{run}
@@ -21,7 +21,7 @@ use Rattle.venice_run.specs.Plan.{has_room}
 use Rattle.venice_run.specs.Stage.{Stage, ◌>>=◌, ◌>>◌, step}
 
 -- the state in which the run of an image on these arrays ends, under these grants
-abbrev pub end_of_run : Contents → Resources → (arrays : Pairs) → (grants : List ℕ) → State
+abbrev pub end_of_run : ImageContents → Resources → (arrays : Pairs) → (grants : List ℕ) → State
 end_of_run image resources arrays grants =
     run (setup_of image resources.lanes) resources.budget grants (start_state image arrays resources.spad)
 

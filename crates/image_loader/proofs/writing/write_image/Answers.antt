@@ -1,6 +1,6 @@
 use Rattle.std.proofs.Common.{◌≡◌, ◌∙◌, length, ap}
 use Rattle.image_loader.specs.Table.{Header}
-use Rattle.image_loader.specs.Image.{Contents, header_of}
+use Rattle.image_loader.specs.Image.{ImageContents, header_of}
 use Rattle.image_loader.proofs.WholeImages.{written}
 use Rattle.image_loader.proofs.writing.write_image.Goals as goal
 
@@ -9,13 +9,13 @@ returns c =
     let image = c.args.image.now in
     let view = c.image.view_is in
     let header : Header = record { spad = c.image.inside.spad; memory = c.image.inside.memory; array_count = c.array_count.result; instr_count = c.len.result } in
-    let version_is : c.version_of.result ≡ image.code.version = c.version_of.ensures ∙ ap (λ (m : Contents). m.code.version) view in
-    let spad : header.spad ≡ image.spad = ap (λ (m : Contents). m.spad) view in
-    let memory : header.memory ≡ image.memory = ap (λ (m : Contents). m.memory) view in
-    let count : header.instr_count ≡ length image.code.instrs = c.len.ensures.value ∙ ap (λ (m : Contents). length m.code.instrs) view in
+    let version_is : c.version_of.result ≡ image.code.version = c.version_of.ensures ∙ ap (λ (m : ImageContents). m.code.version) view in
+    let spad : header.spad ≡ image.spad = ap (λ (m : ImageContents). m.spad) view in
+    let memory : header.memory ≡ image.memory = ap (λ (m : ImageContents). m.memory) view in
+    let count : header.instr_count ≡ length image.code.instrs = c.len.ensures.value ∙ ap (λ (m : ImageContents). length m.code.instrs) view in
     let header_is : header ≡ header_of image = λ i. record { spad = spad i; memory = memory i; array_count = c.array_count.ensures i; instr_count = count i } in
-    let arrays_is : c.deref.result.now ≡ image.arrays = c.deref.ensures.value ∙ ap (λ (m : Contents). m.arrays) view in
-    let code_is : c.image.inside.code ≡ image.code = ap (λ (m : Contents). m.code) view in
+    let arrays_is : c.deref.result.now ≡ image.arrays = c.deref.ensures.value ∙ ap (λ (m : ImageContents). m.arrays) view in
+    let code_is : c.image.inside.code ≡ image.code = ap (λ (m : ImageContents). m.code) view in
     written image c.in_ok-bytes.bytes.items c.put_header.new.bytes.items c.put_table.new.bytes.items c.put_code.new.bytes.items
     c.version_of.result header c.deref.result.now c.image.inside.code
     c.in_ok-bytes.ensures.items version_is header_is arrays_is code_is c.in_ok-put_header.ensures c.in_ok-put_table.ensures c.in_ok-put_code.ensures

@@ -1,12 +1,12 @@
 use Rattle.std.proofs.Common.{◌≡◌, ◌++◌, map, ap, sym, subst, ◌∙◌, rules}
-use Rattle.image_loader.specs.Image.{Contents}
+use Rattle.image_loader.specs.Image.{ImageContents}
 use Rattle.venice_asm.specs.Canonical.{canonical, array_statement, head_text, statement_of, statements_text}
 use Rattle.venice_asm.specs.Faults.{DenotesImage}
 use Rattle.venice_asm.proofs.Written.{canonical_denotes, canonical_is}
 use Rattle.venice_asm.proofs.output.disassemble.Goals as goal
 use Rattle.venice_asm.proofs.output.disassemble.Goals.{In_ok-push_code}
 
-image_of : In_ok-push_code → Contents
+image_of : In_ok-push_code → ImageContents
 image_of c = record { spad = c.image.inside.spad; memory = c.image.inside.memory; arrays = c.image.inside.arrays.items; code = c.image.inside.code }
 
 text_is : (c : In_ok-push_code) → c.push_code.new.text.items ≡ canonical c.args.image.now

@@ -1,4 +1,4 @@
-use Rattle.image_loader.specs.Image.{Contents}
+use Rattle.image_loader.specs.Image.{ImageContents}
 use Rattle.venice_run.specs.Asm.{Assembles, assembled}
 use Rattle.venice_run.specs.Endings.{assembler_ending}
 use Rattle.venice_run.proofs.Stages.{last_ends}
@@ -6,7 +6,7 @@ use Rattle.venice_run.proofs.asm.image_of_text.Goals as goal
 
 pub returns-in_err-assemble : goal.returns-in_err-assemble
 unfolding assembled
-returns-in_err-assemble c = last_ends assembler_ending (Assembles c.args.text.now) (λ (image : Contents). image) _ _ c.from_residual.ensures.1 c.in_err-assemble.ensures
+returns-in_err-assemble c = last_ends assembler_ending (Assembles c.args.text.now) (λ (image : ImageContents). image) _ _ c.from_residual.ensures.1 c.in_err-assemble.ensures
 
 pub returns : goal.returns
 unfolding assembled

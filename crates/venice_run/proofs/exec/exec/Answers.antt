@@ -1,6 +1,6 @@
 use Rattle.std.proofs.Common.{refl, subst, sym, ap, ◌∙◌, Err}
 use Rattle.std.proofs.lemmas.Result.{err_from_is_err_and}
-use Rattle.image_loader.specs.Image.{Contents}
+use Rattle.image_loader.specs.Image.{ImageContents}
 use Rattle.venice_machine.specs.Run.{run}
 use Rattle.venice_machine.specs.Start.{start_state}
 use Rattle.venice_machine.specs.State.{Setup}
@@ -21,13 +21,13 @@ pub returns-in_err-need_room-clause-answer : goal.returns-in_err-need_room-claus
 unfolding exec
 returns-in_err-need_room-clause-answer g c =
     Goes c.in_ok-loaded.loaded c.in_ok-loaded.ensures.read
-    (ends answer_of _ _ c.from_residual-in_err-need_room.ensures.1 (rw (c.from.ensures, ap (λ (i : Contents). i.spad) c.loaded.view_is) at c.in_err-need_room.ensures))
+    (ends answer_of _ _ c.from_residual-in_err-need_room.ensures.1 (rw (c.from.ensures, ap (λ (i : ImageContents). i.spad) c.loaded.view_is) at c.in_err-need_room.ensures))
 
 pub returns-in_err-arrays-clause-answer : goal.returns-in_err-arrays-clause-answer
 unfolding exec inputs_under
 returns-in_err-arrays-clause-answer g c =
     Goes c.in_ok-loaded.loaded c.in_ok-loaded.ensures.read
-    (Goes tt (rw (c.from.ensures, ap (λ (i : Contents). i.spad) c.loaded.view_is) at c.in_ok-need_room.ensures)
+    (Goes tt (rw (c.from.ensures, ap (λ (i : ImageContents). i.spad) c.loaded.view_is) at c.in_ok-need_room.ensures)
     (ends answer_of _ _ c.from_residual-in_err-arrays.ensures.1
     (Ends _ (rw c.in_ok-loaded.ensures.only.content at c.in_err-arrays.ensures.read) refl)))
 
@@ -35,7 +35,7 @@ pub returns-in_err-machine-clause-answer : goal.returns-in_err-machine-clause-an
 unfolding exec inputs_under
 returns-in_err-machine-clause-answer g c =
     Goes c.in_ok-loaded.loaded c.in_ok-loaded.ensures.read
-    (Goes tt (rw (c.from.ensures, ap (λ (i : Contents). i.spad) c.loaded.view_is) at c.in_ok-need_room.ensures)
+    (Goes tt (rw (c.from.ensures, ap (λ (i : ImageContents). i.spad) c.loaded.view_is) at c.in_ok-need_room.ensures)
     (ends answer_of _ _ c.from_residual-in_err-machine.ensures.1
     (Goes c.in_ok-arrays.arrays (rw c.in_ok-loaded.ensures.only.content at c.in_ok-arrays.ensures.read) c.in_err-machine.ensures.fits)))
 
@@ -43,7 +43,7 @@ pub returns-in_err-list-clause-answer : goal.returns-in_err-list-clause-answer
 unfolding exec inputs_under
 returns-in_err-list-clause-answer g c =
     Goes c.in_ok-loaded.loaded c.in_ok-loaded.ensures.read
-    (Goes tt (rw (c.from.ensures, ap (λ (i : Contents). i.spad) c.loaded.view_is) at c.in_ok-need_room.ensures)
+    (Goes tt (rw (c.from.ensures, ap (λ (i : ImageContents). i.spad) c.loaded.view_is) at c.in_ok-need_room.ensures)
     (Goes c.in_ok-arrays.arrays (Goes c.in_ok-arrays.arrays (rw c.in_ok-loaded.ensures.only.content at c.in_ok-arrays.ensures.read) c.in_ok-machine.ensures.fits)
     (ends answer_of _ _ c.from_residual-in_err-list.ensures.1
     (rw (c.in_ok-arrays.ensures.only.content, c.in_ok-loaded.ensures.only.content) at c.in_err-list.ensures.read))))
@@ -52,7 +52,7 @@ pub returns-clause-answer : goal.returns-clause-answer
 unfolding exec inputs_under
 returns-clause-answer g c =
     Goes c.in_ok-loaded.loaded c.in_ok-loaded.ensures.read
-    (Goes tt (rw (c.from.ensures, ap (λ (i : Contents). i.spad) c.loaded.view_is) at c.in_ok-need_room.ensures)
+    (Goes tt (rw (c.from.ensures, ap (λ (i : ImageContents). i.spad) c.loaded.view_is) at c.in_ok-need_room.ensures)
     (Goes c.in_ok-arrays.arrays (Goes c.in_ok-arrays.arrays (rw c.in_ok-loaded.ensures.only.content at c.in_ok-arrays.ensures.read) c.in_ok-machine.ensures.fits)
     (Goes c.in_ok-list.list (rw (c.in_ok-arrays.ensures.only.content, c.in_ok-loaded.ensures.only.content) at c.in_ok-list.ensures.read)
     (let start = start_state c.in_ok-loaded.loaded c.in_ok-arrays.arrays c.args.resources.spad in

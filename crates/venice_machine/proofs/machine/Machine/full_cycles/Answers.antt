@@ -1,14 +1,14 @@
 use Rattle.std.proofs.Common.{inl, inr, ◌⊎◌, ◌≡◌, ◌∙◌, ap, sym, subst, arith, min, ◌+◌, ◌<◌, ◌≤◌, replicate}
 use Rattle.std.proofs.lemmas.Bool.{cases_lt}
 use Rattle.venice_machine.specs.Run.{all_units, after_cycle, after_cycles}
-use Rattle.venice_machine.specs.Machine.{Contents, Shows}
+use Rattle.venice_machine.specs.Machine.{MachineContents, Shows}
 use Rattle.venice_machine.proofs.Cycling.{full_more, ended_rest, none_is, some_is}
 use Rattle.venice_machine.proofs.machine.Machine.full_cycles.Goals as goal
 
 pub loop-k-preserved : goal.loop-k-preserved
 loop-k-preserved c =
     let kept = c.loop-k.invariant in
-    let going = sym (ap (λ (m : Contents). m.end) c.self.view_is) ∙ none_is c.self.inside.end c.if-is_some.ensures in
+    let going = sym (ap (λ (m : MachineContents). m.end) c.self.view_is) ∙ none_is c.self.inside.end c.if-is_some.ensures in
     let k = c.loop-k._k in
     let counted : (k ≡ 0) ⊎ ((k ≤ c.loop-k.self.steps) × (c.loop-k.self.steps < c.args.budget)) → (c.loop-k.self.steps < c.args.budget) ⊎ (c.args.budget ≤ c.loop-k.self.steps)
     → c.full_cycle.new.self.cycles ≤ c.args.self.now.cycles + min (k + 1) c.args.budget
@@ -40,7 +40,7 @@ loop-k-preserved c =
 pub returns-then-is_some-clause-state : goal.returns-then-is_some-clause-state
 returns-then-is_some-clause-state c = λ state shows.
     let ended = some_is c.self.inside.end (sym c.if-is_some.ensures) in
-    let end = sym (ap (λ (m : Contents). m.end) c.self.view_is) ∙ ended.1 in
+    let end = sym (ap (λ (m : MachineContents). m.end) c.self.view_is) ∙ ended.1 in
     let shown = c.loop-k.invariant.state state shows in
     let within : c.loop-k._k ≤ c.args.budget + 1 = omega (arith, c.loop-k-test.true) in
     subst (Shows c.loop-k.self) (sym (ended_rest c.args.self.now.setup c.args.budget c.loop-k._k (c.args.budget + 1) state ended.0 within (shown.end ∙ end))) shown
