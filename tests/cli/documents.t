@@ -4,14 +4,31 @@ What the documents show of the program is what it prints.
   $ cp -r "$TESTDIR/../../README.md" "$TESTDIR/../../docs" "$TESTDIR/../../examples" .
   $ blocks() { awk '/^```/ { inside = !inside; if (!inside) print "```"; next } inside' "$1"; }
 
-README shows two files as they are, and commands with their output.
+README shows a file as it is. Its picture has a square for each value of the inputs, and then for each value of what is printed.
 
   $ blocks README.md | awk -v RS='```\n' '/^# A 3 by 3 blur/' | grep . | cmp - examples/blur.ven
-  $ blocks README.md | awk -v RS='```\n' '/^# One white square/' | grep . | cmp - examples/blur.arrays
-  $ blocks README.md | awk '/^\$ \.\/venice/ { shown = 1 } /^```/ { shown = 0 } shown' > shown
-  $ grep -c '^\$' shown
-  7
-  $ grep '^\$' shown | while read -r sign program words; do echo "$sign $program $words"; venice $words; done | cmp - shown
+  $ { sed '1,2d' examples/blur.arrays; venice eval examples/blur.ven examples/blur.arrays | sed 1d; } | xargs -n 1 > values
+  $ awk '/<g>/ { print "" } /<rect x/' docs/blur.svg | sed 's/.*rgb(\([0-9]*\),.*/\1/' | sed '/^$/d' > greys
+  $ cmp values greys
+
+The pages that show commands with what they print. Each is made a transcript of its own: its blocks that begin with a command.
+
+  $ pages=$(ls README.md docs/tutorial/*.md docs/COOKBOOK.md)
+  $ transcript() {
+  >   printf '  $ cp -r "%s"/* .\n' "$PWD/top"
+  >   awk '/^```/ { inside = !inside; shown = 0; next } inside && /^\$ / { shown = 1 } shown { print "  " $0 }' "$1"
+  > }
+  $ mkdir top pages
+  $ cp -r README.md docs examples top
+  $ ln -s "$TESTDIR/../../venice" "$TESTDIR/../../tools" top
+  $ for page in $pages; do transcript "$page" | grep -v '^  \$ rt ' > "pages/$(basename "$page" .md).t"; done
+  $ grep -c '^  \$' pages/*.t | grep ':[01]$'
+  [1]
+  $ cram3 pages/*.t > said 2>&1 || cat said
+
+A chart of cycles is a run: where each may step in just the cycles in which the chart has it step, they all do.
+
+  $ charts() { awk '/^cycle / { print "chart"; row = 4 } row && !/^cycle / { print; row-- }' "$1"; }
 
 Each rule of a program that docs/LANGUAGE.md lists has an example and its line.
 
