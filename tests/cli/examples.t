@@ -40,20 +40,18 @@ Assembler programs.
   $ for lanes in 1 2 4; do
   >   for name in serial double; do
   >     venice exec "$CRAMTMP/$name.image" serial.arrays $lanes 512 1000 > "$CRAMTMP/$name.out"
+  >     head -n 9 "$CRAMTMP/$name.out" > "$CRAMTMP/$name.sums"
   >     echo $lanes $name $(tail -n 1 "$CRAMTMP/$name.out")
   >   done
-  >   diff "$CRAMTMP/serial.out" "$CRAMTMP/double.out" | grep -c '[0-9] [0-9]* [0-9]'
+  >   cmp "$CRAMTMP/serial.sums" "$CRAMTMP/double.sums"
   > done
   1 serial cycles 226
   1 double cycles 206
-  0
   2 serial cycles 162
   2 double cycles 142
-  0
   4 serial cycles 130
   4 double cycles 110
-  0
-  $ head -n 9 "$CRAMTMP/double.out" | cut -d ' ' -f 1,2,63,64
+  $ cut -d ' ' -f 1,2,63,64 "$CRAMTMP/double.sums"
   y u8[8,64]
   100 102 224 226
   116 118 240 242
