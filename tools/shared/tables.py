@@ -19,21 +19,22 @@ def as_csv(heads, rows):
 
 
 def as_plot(title, across, up, lines):
-    """An SVG of lines, each a name with points (x, y); both axes begin at 0 or below the least, with round numbers."""
+    """An SVG of lines, each a name with points (x, y); both axes begin at 0 and have round numbers."""
     wide, high, left, top = 640, 400, 80, 40
     points = [point for _, line in lines for point in line]
-    right = max((x for x, _ in points), default=1) or 1
-    most = max((y for _, y in points), default=1) or 1
+    right, across_step = axis(max((x for x, _ in points), default=1))
+    most, up_step = axis(max((y for _, y in points), default=1))
     place = lambda x, y: (left + x * (wide - left - 140) / right, high - 50 - y * (high - top - 50) / most)
     out = [f'<svg xmlns="http://www.w3.org/2000/svg" viewBox="0 0 {wide} {high}" font-family="sans-serif" font-size="12">',
            f'<rect width="{wide}" height="{high}" fill="white"/>',
            f'<text x="{left}" y="20" font-size="14">{escaped(title)}</text>']
-    for k in range(5):
-        x, y = right * k / 4, most * k / 4
-        (px, bottom), (side, py) = place(x, 0), place(0, y)
+    for k in range(round(most / up_step) + 1):
+        side, py = place(0, k * up_step)
         out.append(f'<line x1="{side:.1f}" y1="{py:.1f}" x2="{wide - 140}" y2="{py:.1f}" stroke="#ddd"/>')
-        out.append(f'<text x="{side - 6:.1f}" y="{py + 4:.1f}" text-anchor="end">{short(y)}</text>')
-        out.append(f'<text x="{px:.1f}" y="{bottom + 18:.1f}" text-anchor="middle">{short(x)}</text>')
+        out.append(f'<text x="{side - 6:.1f}" y="{py + 4:.1f}" text-anchor="end">{short(k * up_step)}</text>')
+    for k in range(round(right / across_step) + 1):
+        px, bottom = place(k * across_step, 0)
+        out.append(f'<text x="{px:.1f}" y="{bottom + 18:.1f}" text-anchor="middle">{short(k * across_step)}</text>')
     out.append(f'<text x="{(left + wide - 140) / 2}" y="{high - 8}" text-anchor="middle">{escaped(across)}</text>')
     out.append(f'<text x="16" y="{high / 2}" text-anchor="middle" transform="rotate(-90 16 {high / 2})">{escaped(up)}</text>')
     for k, (name, line) in enumerate(lines):
@@ -45,6 +46,13 @@ def as_plot(title, across, up, lines):
                        f'<title>{escaped(name)}: {point[0]}, {point[1]}</title></circle>')
         out.append(f'<text x="{wide - 128}" y="{top + 16 * k}" fill="{colour}">{escaped(name)}</text>')
     return "\n".join([*out, "</svg>", ""])
+
+
+def axis(most):
+    """Where an axis ends that shows numbers from 0 to `most`, and the step of its numbers, of which there are about five."""
+    most = max(most, 1)
+    step = next(it * 10 ** power for power in range(19) for it in (1, 2, 5) if it * 10 ** power * 5 >= most)
+    return -(-most // step) * step, step
 
 
 def short(number):
