@@ -11,24 +11,22 @@ README shows a file as it is. Its picture has a square for each value of the inp
   $ awk '/<g>/ { print "" } /<rect x/' docs/blur.svg | sed 's/.*rgb(\([0-9]*\),.*/\1/' | sed '/^$/d' > greys
   $ cmp values greys
 
-The pages that show commands with what they print. Each is made a transcript of its own: its blocks that begin with a command.
+The pages that show commands with what they print. Each is made a transcript of its own, in a folder that stands for the top of the
+repository, out of its blocks that begin with a command. A page that draws pictures wants Debian's numpy and pil.
 
-  $ pages=$(ls README.md docs/tutorial/*.md docs/COOKBOOK.md)
   $ transcript() {
-  >   printf '  $ cp -r "%s"/* .\n' "$PWD/top"
+  >   grep -q '^\$ \./tools/[pf]i' "$1" && echo "  \$ /usr/bin/python3 -c 'import numpy, PIL' 2>/dev/null || exit 80"
+  >   printf '  $ cp -r "%s"/* .\n  $ PATH=/usr/bin:$PATH\n' "$PWD/top"
   >   awk '/^```/ { inside = !inside; shown = 0; next } inside && /^\$ / { shown = 1 } shown { print "  " $0 }' "$1"
   > }
   $ mkdir top pages
-  $ cp -r README.md docs examples top
+  $ cp -r examples top
   $ ln -s "$TESTDIR/../../venice" "$TESTDIR/../../tools" top
-  $ for page in $pages; do transcript "$page" | grep -v '^  \$ rt ' > "pages/$(basename "$page" .md).t"; done
-  $ grep -c '^  \$' pages/*.t | grep ':[01]$'
+  $ for page in README.md docs/COOKBOOK.md docs/tutorial/*.md; do transcript $page > pages/$(basename $page .md).t; done
+  $ grep -c '^  \$' pages/*.t | grep -c ':[0-3]$'
+  0
   [1]
-  $ cram3 pages/*.t > said 2>&1 || cat said
-
-A chart of cycles is a run: where each may step in just the cycles in which the chart has it step, they all do.
-
-  $ charts() { awk '/^cycle / { print "chart"; row = 4 } row && !/^cycle / { print; row-- }' "$1"; }
+  $ cram3 --shell=/bin/bash pages/*.t > said 2>&1 || cat said
 
 Each rule of a program that docs/LANGUAGE.md lists has an example and its line.
 
