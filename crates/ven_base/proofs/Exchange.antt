@@ -1,11 +1,11 @@
 -- Beats of works that are apart may change places, and so may many of them.
 use Rattle.std.proofs.Common.{◌≡◌, ℕ, zero, suc, ◌+◌, ◌<◌, sym, refl, subst, ap, ◌∙◌, arith, List, [], ◌∷◌, ◌++◌, slice_get, inl, inr, Some, None, Option, option_map, cond, nat_lt, false}
-use Rattle.std.specs.Prelude.{All, ⊤}
+use Rattle.std.specs.Prelude.{All}
 use Rattle.std.proofs.lemmas.List.Elements.{All-head}
 use Rattle.std.proofs.lemmas.Option.{same_Some, none-some}
 use Rattle.ven_base.specs.Cell.{Cell}
 use Rattle.ven_base.specs.Store.{Place, in_cells, in_memory, content_at, Store, Size, store_size, AgreeOn, IsInRange}
-use Rattle.ven_base.specs.Job.{Job, Course, IsReady, KeepsToFootprint, next_job, next_store, jobs_beaten, store_beaten}
+use Rattle.ven_base.specs.Job.{Job, KeepsToFootprint, next_job, next_store, jobs_beaten, store_beaten}
 use Rattle.ven_base.specs.Beats.{jobs_after_beats, store_after_beats, HasMore}
 use Rattle.ven_base.specs.Exchange.{WorkKind, IsReadyIn, KeepToFootprints, HasMoreIn, AreApart, FirstsApart, BeatsExchange, ManyPastOne}
 use Rattle.ven_base.proofs.Jobs.{comes_on}

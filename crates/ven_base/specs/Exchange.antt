@@ -58,3 +58,20 @@ module _ {A B P Q : Type 0} (kind : WorkKind A P) (other : WorkKind B Q) where
         ≡ jobs_after_beats kind.course count jobs store
     pub same_others : jobs_beaten other.course 0 others (store_after_beats kind.course count jobs store)
         ≡ jobs_beaten other.course 0 others store
+
+  -- ---- the laws of two units: they hold where both keep to footprints
+
+  -- two beats of works that are apart may change places
+  abbrev pub ExchangeBeats : Type 0
+  ExchangeBeats =
+      (a : Job A P) (b : Job B Q) (store : Store)
+      → IsReadyIn kind (store_size store) a → IsReadyIn other (store_size store) b → AreApart a.work b.work
+      → BeatsExchange a b store
+
+  -- and so may many beats of a queue's first work, none of them its last, and one of the other queue's
+  abbrev pub MoveManyPastOne : Type 0
+  MoveManyPastOne =
+      (count : ℕ) (jobs : List (Job A P)) (others : List (Job B Q)) (store : Store)
+      → HasMoreIn kind (store_size store) count jobs → HasMoreIn other (store_size store) 0 others
+      → FirstsApart jobs others
+      → ManyPastOne count jobs others store
