@@ -7,11 +7,13 @@
 #![tactic(auto)]
 
 mod flags;
+mod laws;
 mod memory;
 mod overtaking;
 mod spad;
 mod unit;
 
+pub use laws::exchange_laws;
 pub use memory::MainMem;
 pub use overtaking::Overtaking;
 pub use spad::Spad;
