@@ -12,13 +12,13 @@ mod array;
 mod arrays;
 mod elem;
 mod entry;
+mod known_elem;
 mod laws;
+mod limits;
 mod mapping;
 mod name;
 mod ops;
 mod shape;
-#[cfg(test)]
-mod tests;
 mod wrapping;
 
 pub use apply::{apply1, apply2};
@@ -26,9 +26,11 @@ pub use array::Array;
 pub use arrays::Arrays;
 pub use elem::Elem;
 pub use entry::Entry;
+pub use known_elem::{KnownElem, TypeI8, TypeI16, TypeI32, TypeU8, TypeU16, TypeU32};
 pub use laws::{
     array_laws, mapping_laws, operation_laws, place_laws, reduction_laws, wrapping_laws,
 };
+pub use limits::{CELL_LIMIT, MEMORY_LIMIT};
 pub use mapping::Mapping;
 pub use name::{
     NAME_LIMIT, Name, is_digit, is_name_byte, is_name_start, is_name_token, is_reserved,
