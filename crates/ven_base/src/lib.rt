@@ -2,9 +2,10 @@
 //!
 //! Element types and `wrap`, which brings a whole number into a type's range; the operations, `apply1` and `apply2`,
 //! each the operation on whole numbers and then `wrap`; shapes, index maps and their sources, one index at a time;
-//! names, arrays and lists of named arrays. `specs/` has the definitions, and `laws` what holds of them for every
-//! number, list and index. The rules of the language stand in docs/LANGUAGE.md, those of the operations and index maps
-//! among them.
+//! names, arrays and lists of named arrays; the words of the element types, and these types as types of the compiler
+//! (`KnownElem`); limits that several crates share. `specs/` has the definitions, and `laws` what holds of them for
+//! every number, list and index. The rules of the language stand in docs/LANGUAGE.md, those of the operations and index
+//! maps among them.
 #![tactic(auto)]
 
 mod apply;
