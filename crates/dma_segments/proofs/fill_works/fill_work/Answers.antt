@@ -1,8 +1,7 @@
 use Rattle.std.proofs.Common.{rules, ap, w64, false, true}
 use Rattle.std.proofs.lemmas.Int.{to_z-of_z}
-use Rattle.vector_codegen.specs.Kind.{move_kind}
-use Rattle.vector_codegen.specs.Work.{word_of}
-use Rattle.vector_codegen.proofs.tile_list.fill_work.Goals as goal
+use Rattle.dma_segments.specs.FillWork.{move_kind, word_of}
+use Rattle.dma_segments.proofs.fill_works.fill_work.Goals as goal
 
 pub returns : goal.returns
 returns c =
