@@ -3,7 +3,7 @@ use Rattle.std.specs.Prelude.{All}
 use Rattle.ven_base.specs.Store.{store_of, store_size, IsInRange}
 use Rattle.ven_base.specs.Job.{jobs_beaten}
 use Rattle.ven_base.proofs.Jobs.{works_beaten, size_beaten}
-use Rattle.lane_machine.proofs.tests.count_beats.Goals as goal
+use Rattle.machine_tests.proofs.lanes.count_beats.Goals as goal
 
 pub loop-turn-preserved : goal.loop-turn-preserved
 loop-turn-preserved g c =

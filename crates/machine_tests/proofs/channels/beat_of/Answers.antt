@@ -1,7 +1,7 @@
 use Rattle.std.proofs.Common.{refl}
 use Rattle.ven_base.specs.Store.{store_of}
 use Rattle.dma_engine.proofs.Beaten.{same_size, still_inside}
-use Rattle.dma_engine.proofs.tests.beat_of.Goals as goal
+use Rattle.machine_tests.proofs.channels.beat_of.Goals as goal
 
 pub returns-then-second-clause-inside : goal.returns-then-second-clause-inside
 returns-then-second-clause-inside g c =

@@ -1,4 +1,4 @@
-//! Instructions run on a small scratchpad: A stands at cell 0, B at 16 and the destination at 32.
+//! The lanes on a small scratchpad, `lane_machine`: A stands at cell 0, B at 16 and the destination at 32.
 ghost use Rattle.std.specs.Prelude.{◌≡◌, ◌↔◌, ◌+◌, ◌<◌, ◌≤◌, [], ◌∷◌, ◌++◌, IsTrue, IfOk, IsErr, OnOk, All, length, slice_get};
 ghost use Rattle.ven_base.specs.Store.{cells_alone, store_of, store_size, IsInRange};
 ghost use Rattle.ven_base.specs.Job.{new_job, works_of};
@@ -6,7 +6,7 @@ ghost use Rattle.venice_isa.specs.Whole.{HasCounts};
 ghost use Rattle.venice_isa.specs.Footprint.{HasFootprint};
 ghost use Rattle.venice_isa.specs.declared.issue.Issue.TheVariants.{Vector};
 
-use crate::Lanes;
+use lane_machine::Lanes;
 use spad_store::{MainMem, Spad, Unit};
 use std::alloc::{AllocError, Global};
 use std::test::Fail;

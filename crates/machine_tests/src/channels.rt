@@ -1,11 +1,11 @@
-//! Transfers on small stores: what is copied has the bytes 1, 2, 3 and so on from place 0 on, and what is written over
-//! the byte 200 everywhere, in cells with the flag set.
+//! The channels on small stores, `dma_engine`: what is copied has the bytes 1, 2, 3 and so on from place 0 on, and what is
+//! written over the byte 200 everywhere, in cells with the flag set.
 ghost use Rattle.std.specs.Prelude.{◌≡◌, ◌<◌, IfOk, IsTrue, All, length};
 ghost use Rattle.ven_base.specs.Store.{store_of, store_size, IsInRange};
 ghost use Rattle.venice_isa.specs.Footprint.{HasFootprint};
 ghost use Rattle.dma_engine.specs.Direction.{HasBytes, issue_of};
 
-use crate::{Channel, Directed, ReadChannel, Reads, WriteChannel, Writes};
+use dma_engine::{Channel, Directed, ReadChannel, Reads, WriteChannel, Writes};
 use spad_store::{MainMem, Overtaking, Spad, Unit};
 use std::alloc::{AllocError, Global};
 use std::test::Fail;

@@ -1,7 +1,7 @@
 use Rattle.std.proofs.Common.{◌≡◌}
 use Rattle.std.specs.Prelude.{All}
 use Rattle.ven_base.specs.Store.{store_of, store_size, IsInRange}
-use Rattle.dma_engine.proofs.tests.beats_of.Given as goal
+use Rattle.machine_tests.proofs.channels.beats_of.Given as goal
 
 abbrev pub invariant-loop-made : goal.invariant-loop-made
 invariant-loop-made g l =
