@@ -14,4 +14,6 @@ pub mod Pairs
 pub mod Cell
 pub mod Store
 pub mod Job
+pub mod Beats
+pub mod Exchange
 pub mod Laws
