@@ -1,4 +1,6 @@
 pub mod Elem
+pub mod ElemWord
+pub mod Limits
 pub mod Wrap
 pub mod Name
 pub mod Stored
