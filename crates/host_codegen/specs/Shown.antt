@@ -4,8 +4,8 @@ use Rattle.host_codegen.specs.declared.geometry.Layout.{Layout}
 use Rattle.host_codegen.specs.declared.steps.RowsExpr.{RowsExpr}
 use Rattle.host_codegen.specs.declared.steps.SourceExpr.{SourceExpr}
 use Rattle.host_codegen.specs.declared.steps.SourceExpr.TheVariants.{Buffer, Scalar}
-use Rattle.split_programs.specs.Geometry as geometry
-use Rattle.split_programs.specs.StepProgram as steps
+use Rattle.host_codegen.specs.Geometry as geometry
+use Rattle.host_codegen.specs.StepProgram as steps
 
 abbrev pub layout_at : Layout → geometry.Layout
 layout_at layout = record {

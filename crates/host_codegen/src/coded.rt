@@ -3,13 +3,13 @@ ghost use Rattle.std.specs.Prelude.{◌≤◌, ◌<◌, ◌^◌, IfOk};
 ghost use Rattle.pass_plan.specs.Need.{need_of};
 ghost use Rattle.pass_plan.specs.Sound.{IsSound};
 ghost use Rattle.pass_plan.specs.Shown.{split_of};
-ghost use Rattle.split_programs.specs.CodeRoom.{code_room};
+ghost use Rattle.host_codegen.specs.CodeRoom.{code_room};
 ghost use Rattle.host_codegen.specs.CodeOf.{IsCodeOf};
 
+use crate::laws::{cost_laws, fit_laws, program_laws};
 use crate::passes::split_program;
 use host_programs::{code_laws, code_of};
 use pass_plan::Split;
-use split_programs::{cost_laws, fit_laws, program_laws};
 use std::alloc::{AllocError, Global};
 use venice_isa::Code;
 
@@ -17,7 +17,7 @@ use venice_isa::Code;
 ///
 /// Its issue list is the pipelined list (docs/COMPILER.md, "Host code"). It has at most `code_room` instructions,
 /// whatever the number of tiles, and that number has to be below 2 to the 32, as instructions have places of 32 bits: by
-/// `room_laws` of split_programs it is where the passes' trees have together at most 1,000,000 nodes. Its steps, the
+/// `room_laws` it is where the passes' trees have together at most 1,000,000 nodes. Its steps, the
 /// halt's and all beats of the list are within the bound of the passes, for any number of lanes. The only error is that
 /// memory runs out.
 pub fn code(alloc: Global, split: &Split, spad: u32) -> Result<Code, AllocError>

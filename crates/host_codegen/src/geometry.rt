@@ -7,7 +7,7 @@ ghost use Rattle.dma_schedule.specs.Plan.{IsReady};
 ghost use Rattle.host_programs.specs.Expr as plain;
 ghost use Rattle.host_programs.specs.Shown.{expr_of, program_of};
 ghost use Rattle.transfer_builder.specs.Shown.{small_of, piece_of};
-ghost use Rattle.split_programs.specs.Geometry as spec;
+ghost use Rattle.host_codegen.specs.Geometry as spec;
 ghost use Rattle.host_codegen.specs.Shown.{layout_at};
 ghost use Rattle.host_codegen.specs.Fit.{IsFitting};
 

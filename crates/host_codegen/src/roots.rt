@@ -7,7 +7,7 @@ ghost use Rattle.vector_codegen.specs.Root as works;
 ghost use Rattle.host_programs.specs.Expr as plain;
 ghost use Rattle.host_programs.specs.Shown.{vector_of, program_of};
 ghost use Rattle.transfer_builder.specs.Shown.{small_of};
-ghost use Rattle.split_programs.specs.RootProgram as spec;
+ghost use Rattle.host_codegen.specs.RootProgram as spec;
 ghost use Rattle.host_codegen.specs.Shown.{layout_at, rows_at};
 ghost use Rattle.host_codegen.specs.Fit.{IsFitting, IsStepAt};
 
@@ -357,7 +357,7 @@ impl Numbered for Steps<'_> {
     ghost use Rattle.std.specs.Prelude.{length, get_or, All};
     ghost use Rattle.buffer_lifetimes.specs.Step.{step_of, steps_of};
     ghost use Rattle.host_programs.specs.Program as list;
-    ghost use Rattle.split_programs.specs.RootProgram as spec;
+    ghost use Rattle.host_codegen.specs.RootProgram as spec;
     ghost use Rattle.host_codegen.specs.Shown.{layout_at};
     ghost use Rattle.host_codegen.specs.Fit.{IsFitting, IsStepAt};
 

@@ -8,7 +8,7 @@ ghost use Rattle.vector_codegen.specs.Work as works;
 ghost use Rattle.host_programs.specs.Expr as plain;
 ghost use Rattle.host_programs.specs.Shown.{expr_of, vector_of, program_of};
 ghost use Rattle.transfer_builder.specs.Shown.{small_of};
-ghost use Rattle.split_programs.specs.StepProgram as spec;
+ghost use Rattle.host_codegen.specs.StepProgram as spec;
 ghost use Rattle.host_codegen.specs.Shown.{layout_at, rows_at, source_at};
 ghost use Rattle.host_codegen.specs.Fit.{IsFitting, IsArgAt, IsStepAt};
 
@@ -78,7 +78,7 @@ pub fn row_bytes(shape: RowsExpr, elem: Elem) -> SmallExpr
 impl SourceExpr {
     ghost use Rattle.std.specs.Prelude.{◌≡◌};
     ghost use Rattle.transfer_builder.specs.Shown.{small_of};
-    ghost use Rattle.split_programs.specs.StepProgram as spec;
+    ghost use Rattle.host_codegen.specs.StepProgram as spec;
     ghost use Rattle.host_codegen.specs.Shown.{source_at};
 
     /// Whether the values are one number.

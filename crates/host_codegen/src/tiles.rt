@@ -8,9 +8,9 @@ ghost use Rattle.host_programs.specs.Program as list;
 ghost use Rattle.host_programs.specs.Expr as plain;
 ghost use Rattle.host_programs.specs.Shown.{program_of};
 ghost use Rattle.transfer_builder.specs.Shown.{piece_of};
-ghost use Rattle.split_programs.specs.Geometry as geometry;
-ghost use Rattle.split_programs.specs.RootProgram as roots;
-ghost use Rattle.split_programs.specs.TileProgram as spec;
+ghost use Rattle.host_codegen.specs.Geometry as geometry;
+ghost use Rattle.host_codegen.specs.RootProgram as roots;
+ghost use Rattle.host_codegen.specs.TileProgram as spec;
 ghost use Rattle.host_codegen.specs.Fit.{IsTiled};
 
 use crate::geometry::{if_last, output_expr, output_half_expr, piece_at, with_tile};
@@ -36,7 +36,7 @@ struct Reads<'a> {
 impl Numbered for Reads<'_> {
     ghost use Rattle.std.specs.Prelude.{length};
     ghost use Rattle.pass_plan.specs.Shown.{pass_of};
-    ghost use Rattle.split_programs.specs.TileProgram as spec;
+    ghost use Rattle.host_codegen.specs.TileProgram as spec;
     ghost use Rattle.host_codegen.specs.Fit.{IsTiled};
 
     ghost ready = { λ s. IsTiled s.tiled.now };
@@ -80,7 +80,7 @@ struct Fills<'a> {
 impl Numbered for Fills<'_> {
     ghost use Rattle.std.specs.Prelude.{length};
     ghost use Rattle.pass_plan.specs.Shown.{pass_of};
-    ghost use Rattle.split_programs.specs.TileProgram as spec;
+    ghost use Rattle.host_codegen.specs.TileProgram as spec;
     ghost use Rattle.host_codegen.specs.Fit.{IsTiled};
 
     ghost ready = { λ s. IsTiled s.tiled.now };

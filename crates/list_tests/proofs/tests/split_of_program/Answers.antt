@@ -2,7 +2,7 @@ use Rattle.std.proofs.Common.{◌≤◌, List, subst, arith}
 use Rattle.shape_check.specs.declared.checked.CheckedStmt.{CheckedStmt}
 use Rattle.shape_check.specs.Checked.{program_of, IsCheckedProgram}
 use Rattle.pass_plan.specs.Shown.{split_of}
-use Rattle.split_programs.specs.CodeRoom.{nodes_in}
+use Rattle.host_codegen.specs.CodeRoom.{nodes_in}
 use Rattle.list_tests.proofs.tests.split_of_program.Goals as goal
 
 pub returns-clause-small : goal.returns-clause-small

@@ -7,7 +7,7 @@ use Rattle.dma_schedule.specs.Plan.{IsReady}
 use Rattle.dma_schedule.proofs.Ready.{small}
 use Rattle.dma_schedule.proofs.CodePasses.{item_is, holds_one, ready_one}
 use Rattle.host_programs.specs.Shown.{program_of}
-use Rattle.split_programs.specs.PassProgram.{pass_program}
+use Rattle.host_codegen.specs.PassProgram.{pass_program}
 use Rattle.host_codegen.proofs.Numbering.{mapped_length, pass_at}
 use Rattle.host_codegen.proofs.passes.PassesNumbered.program.Goals as goal
 
