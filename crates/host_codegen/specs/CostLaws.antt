@@ -2,6 +2,7 @@
 use Rattle.std.specs.Prelude.{ℕ, ◌+◌, ◌*◌, ◌^◌, ◌≤◌, ◌<◌, length}
 use Rattle.venice_isa.specs.Beat.{beats_of_all}
 use Rattle.pass_plan.specs.Need.{bound_of}
+use Rattle.pass_plan.specs.Sizes.{nodes_in, mapped_in}
 use Rattle.pass_plan.specs.Sound.{Split, IsSound}
 use Rattle.dma_schedule.specs.Laws.{OfSplits}
 use Rattle.dma_schedule.specs.PipeList.{pipe_list}
@@ -10,7 +11,7 @@ use Rattle.host_programs.specs.ProgramCode.{block_of, steps_of}
 use Rattle.host_programs.specs.ProgramFits.{ProgramFits}
 use Rattle.host_programs.specs.ProgramLaws.{no_registers}
 use Rattle.host_codegen.specs.SplitProgram.{split_program}
-use Rattle.host_codegen.specs.CodeRoom.{code_room, nodes_in, leaves_in, maps_in, mapped_in, code_limit}
+use Rattle.host_codegen.specs.CodeRoom.{code_room, leaves_in, maps_in, code_limit}
 
 -- its code with a halt behind it has at most the room's instructions
 abbrev pub CodeFitsItsRoom : Type 0
