@@ -57,6 +57,6 @@ leaves_in split = sum_by (λ (pass : Pass). length pass.leaves) split.passes
 abbrev pub maps_in : Split → ℕ
 maps_in split = sum_by (λ (pass : Pass). sum_by (λ (leaf : Leaf). map_share leaf.map) pass.leaves) split.passes
 
--- the most instructions of an image
-abbrev pub code_limit : ℕ
-code_limit = 8000000
+-- the most nodes of a split that has code
+abbrev pub split_nodes_limit : ℕ
+split_nodes_limit = 1000000
