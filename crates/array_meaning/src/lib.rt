@@ -8,7 +8,6 @@
 //! operation of a node are chosen once, and its loop is compiled for them.
 #![tactic(auto)]
 
-mod element;
 mod evaluation;
 mod fill;
 mod kernel;

@@ -30,7 +30,7 @@ const TABLE_PLACE: u32 = 20;
 const ENTRY_BYTES: u32 = 15;
 
 /// The table's arrays, and where it ends.
-#[derive(Debug, Drop)]
+#[derive(Drop)]
 struct Table {
     arrays: Vec<Entry>,
     end: u32,

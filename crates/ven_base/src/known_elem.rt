@@ -1,29 +1,36 @@
 //! Element types that are known where the code is compiled.
 
-use ven_base::Elem;
+use crate::Elem;
 
 /// An element type that is known where the code is compiled, so that a loop over elements is compiled for it.
-pub(crate) trait Element {
+pub trait KnownElem {
     ghost use Rattle.ven_base.specs.declared.elem.Elem.{Elem as TheElem};
 
     ghost ELEM: { TheElem };
 
+    /// The type.
     const ELEM: Elem;
 }
 
-pub(crate) struct TypeU8;
+/// The type `u8`.
+pub struct TypeU8;
 
-pub(crate) struct TypeI8;
+/// The type `i8`.
+pub struct TypeI8;
 
-pub(crate) struct TypeU16;
+/// The type `u16`.
+pub struct TypeU16;
 
-pub(crate) struct TypeI16;
+/// The type `i16`.
+pub struct TypeI16;
 
-pub(crate) struct TypeU32;
+/// The type `u32`.
+pub struct TypeU32;
 
-pub(crate) struct TypeI32;
+/// The type `i32`.
+pub struct TypeI32;
 
-impl Element for TypeU8 {
+impl KnownElem for TypeU8 {
     ghost use Rattle.ven_base.specs.declared.elem.Elem.TheVariants.{U8};
 
     ghost ELEM = { U8 };
@@ -31,7 +38,7 @@ impl Element for TypeU8 {
     const ELEM: Elem = Elem::U8;
 }
 
-impl Element for TypeI8 {
+impl KnownElem for TypeI8 {
     ghost use Rattle.ven_base.specs.declared.elem.Elem.TheVariants.{I8};
 
     ghost ELEM = { I8 };
@@ -39,7 +46,7 @@ impl Element for TypeI8 {
     const ELEM: Elem = Elem::I8;
 }
 
-impl Element for TypeU16 {
+impl KnownElem for TypeU16 {
     ghost use Rattle.ven_base.specs.declared.elem.Elem.TheVariants.{U16};
 
     ghost ELEM = { U16 };
@@ -47,7 +54,7 @@ impl Element for TypeU16 {
     const ELEM: Elem = Elem::U16;
 }
 
-impl Element for TypeI16 {
+impl KnownElem for TypeI16 {
     ghost use Rattle.ven_base.specs.declared.elem.Elem.TheVariants.{I16};
 
     ghost ELEM = { I16 };
@@ -55,7 +62,7 @@ impl Element for TypeI16 {
     const ELEM: Elem = Elem::I16;
 }
 
-impl Element for TypeU32 {
+impl KnownElem for TypeU32 {
     ghost use Rattle.ven_base.specs.declared.elem.Elem.TheVariants.{U32};
 
     ghost ELEM = { U32 };
@@ -63,7 +70,7 @@ impl Element for TypeU32 {
     const ELEM: Elem = Elem::U32;
 }
 
-impl Element for TypeI32 {
+impl KnownElem for TypeI32 {
     ghost use Rattle.ven_base.specs.declared.elem.Elem.TheVariants.{I32};
 
     ghost ELEM = { I32 };
