@@ -394,10 +394,12 @@ fn leaves_in_each(
     requires some_cells { 0 < least }
     requires few_cells { least ≤ 1000 }
 {
-    Ok(leaves(alloc, split, least, inputs, outputs)?
-        && leaves(alloc, split, 2 * least, inputs, outputs)?
-        && leaves(alloc, split, 7 * least, inputs, outputs)?
-        && leaves(alloc, split, 60 * least, inputs, outputs)?)
+    Ok(
+        leaves(alloc, split, least, inputs, outputs)?
+            && leaves(alloc, split, 2 * least, inputs, outputs)?
+            && leaves(alloc, split, 7 * least, inputs, outputs)?
+            && leaves(alloc, split, 60 * least, inputs, outputs)?,
+    )
 }
 
 /// Whether the program's list is disciplined, is that of its code, and leaves its outputs on 1 to 4 lanes, in a
