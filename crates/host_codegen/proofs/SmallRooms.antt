@@ -8,9 +8,10 @@ use Rattle.pass_plan.specs.declared.leaf.Leaf.{Leaf}
 use Rattle.pass_plan.specs.declared.split.ArrayPlace.{ArrayPlace}
 use Rattle.pass_plan.specs.Tree.{nodes_of, leaves_of}
 use Rattle.pass_plan.specs.Pass.{Pass}
+use Rattle.pass_plan.specs.Sizes.{map_count}
 use Rattle.pass_plan.specs.Sound.{IsSoundPass, AreSound}
 use Rattle.vector_codegen.proofs.PassLaws.{leaves_occur, nodes_at_least}
-use Rattle.host_codegen.specs.CodeRoom.{map_share, map_count}
+use Rattle.host_codegen.specs.CodeRoom.{map_share}
 use Rattle.host_codegen.specs.CostLaws.{LeavesAreFew, RoomIsEnough, RoomsAreSmall}
 use Rattle.host_codegen.proofs.CostRooms.{room_is_bounded}
 

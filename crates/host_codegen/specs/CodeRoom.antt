@@ -8,7 +8,6 @@ use Rattle.pass_plan.specs.declared.leaf.Leaf.{Leaf}
 use Rattle.pass_plan.specs.declared.pass.PassKind.{PassKind}
 use Rattle.pass_plan.specs.declared.pass.PassKind.TheVariants.{Map, Reduce}
 use Rattle.pass_plan.specs.Numbers.{inner_of}
-use Rattle.pass_plan.specs.Tree.{nodes_of}
 use Rattle.pass_plan.specs.Pass.{Pass}
 use Rattle.pass_plan.specs.Sound.{Split}
 use Rattle.transfer_programs.specs.CostLaws.{leaf_room, fill_room}
@@ -51,24 +50,13 @@ map_share (Section r0 nr sr c0 nc sc) = 128
 map_share (Stretch kr kc) = 688
 map_share Transpose = 116
 
--- the nodes of all passes, their leaves, and what the leaves' maps take
-abbrev pub nodes_in : Split → ℕ
-nodes_in split = sum_by (λ (pass : Pass). nodes_of pass.tree) split.passes
-
+-- the leaves of all passes, and what their maps take
 abbrev pub leaves_in : Split → ℕ
 leaves_in split = sum_by (λ (pass : Pass). length pass.leaves) split.passes
 
 abbrev pub maps_in : Split → ℕ
 maps_in split = sum_by (λ (pass : Pass). sum_by (λ (leaf : Leaf). map_share leaf.map) pass.leaves) split.passes
 
--- how many leaves of all passes are read under a map other than the identity
-abbrev pub map_count : Mapping → ℕ
-map_count Identity = 0
-map_count _ = 1
-
-abbrev pub mapped_in : Split → ℕ
-mapped_in split = sum_by (λ (pass : Pass). sum_by (λ (leaf : Leaf). map_count leaf.map) pass.leaves) split.passes
-
--- the most instructions of an image
-abbrev pub code_limit : ℕ
-code_limit = 8000000
+-- the most nodes of a split that has code
+abbrev pub split_nodes_limit : ℕ
+split_nodes_limit = 1000000

@@ -1,7 +1,9 @@
 -- What the program of a split costs.
 use Rattle.std.specs.Prelude.{ℕ, ◌+◌, ◌*◌, ◌^◌, ◌≤◌, ◌<◌, length}
 use Rattle.venice_isa.specs.Beat.{beats_of_all}
+use Rattle.venice_isa.specs.Limits.{instruction_limit}
 use Rattle.pass_plan.specs.Need.{bound_of}
+use Rattle.pass_plan.specs.Sizes.{nodes_in, mapped_in}
 use Rattle.pass_plan.specs.Sound.{Split, IsSound}
 use Rattle.dma_schedule.specs.Laws.{OfSplits}
 use Rattle.dma_schedule.specs.PipeList.{pipe_list}
@@ -10,7 +12,7 @@ use Rattle.host_programs.specs.ProgramCode.{block_of, steps_of}
 use Rattle.host_programs.specs.ProgramFits.{ProgramFits}
 use Rattle.host_programs.specs.ProgramLaws.{no_registers}
 use Rattle.host_codegen.specs.SplitProgram.{split_program}
-use Rattle.host_codegen.specs.CodeRoom.{code_room, nodes_in, leaves_in, maps_in, mapped_in, code_limit}
+use Rattle.host_codegen.specs.CodeRoom.{code_room, leaves_in, maps_in, split_nodes_limit}
 
 -- its code with a halt behind it has at most the room's instructions
 abbrev pub CodeFitsItsRoom : Type 0
@@ -28,11 +30,11 @@ LeavesAreFew = (split : Split) → IsSound split → leaves_in split ≤ nodes_i
 -- the room of a sound split with at most so many nodes, and so many leaves under maps, is within an image's
 abbrev pub RoomIsEnough : Type 0
 RoomIsEnough = (split : Split) → IsSound split → nodes_in split ≤ 16384 → mapped_in split ≤ 4096
-    → code_room split ≤ code_limit
+    → code_room split ≤ instruction_limit
 
--- the code of a sound split with at most so many nodes has places of 32 bits
+-- the code of a sound split that isn't too large has places of 32 bits
 abbrev pub RoomsAreSmall : Type 0
-RoomsAreSmall = (split : Split) → IsSound split → nodes_in split ≤ 1000000 → code_room split < 2 ^ 32
+RoomsAreSmall = (split : Split) → IsSound split → nodes_in split ≤ split_nodes_limit → code_room split < 2 ^ 32
 
 -- ---- steps
 

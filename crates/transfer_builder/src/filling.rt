@@ -13,10 +13,10 @@ ghost use Rattle.transfer_builder.specs.Shown.{small_of, piece_of, fill_sides_of
 use crate::axis::Span;
 use crate::small_expr::{PieceExpr, SmallExpr};
 use crate::sums::{copy_of, lesser, plus, scaled, times};
+use dma_segments::{move_kind, word_of};
 use host_programs::{Expr, Order, Program, VectorOrder};
 use pass_plan::Leaf;
 use std::alloc::{AllocError, Global};
-use vector_codegen::{move_kind, word_of};
 use ven_base::{Elem, Mapping, Shape};
 
 /// The type of a piece's elements and the number that fills it; its first cell, and how wide it is.
