@@ -6,3 +6,5 @@
 
 #[cfg(test)]
 mod isa;
+#[cfg(test)]
+mod stores;

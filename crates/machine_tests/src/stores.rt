@@ -1,7 +1,7 @@
-//! The calls on small stores.
+//! Cells and memory, small ones: `spad_store`.
 ghost use Rattle.std.specs.Prelude.{◌≤◌, length};
 
-use crate::{MainMem, Spad};
+use spad_store::{MainMem, Spad};
 use std::test::Fail;
 
 #[test]
