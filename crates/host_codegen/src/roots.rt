@@ -16,7 +16,8 @@ ghost use Rattle.host_codegen.specs.Fit.{IsFitting, IsStepAt};
 use crate::geometry::{Layout, first_or_later};
 use crate::sequence::{Numbered, each_of};
 use crate::steps::{
-    RowsExpr, SmallOrder, SourceExpr, order_of, order_with, places, row_bytes, step_order, with_row,
+    RowsExpr, SmallOrder, SourceExpr, order_of, order_with, places_of, row_bytes, step_order,
+    with_row,
 };
 use buffer_lifetimes::EvalStep;
 use host_programs::{Expr, Order, Program, VectorOrder};
@@ -180,7 +181,7 @@ fn halving_order(
     let kind = two_kind(better_of(least), elem, false, false, false);
     let cell = layout.slot_cell(slot);
     let row = row_bytes(ALL_ROWS, elem);
-    let steps = places(alloc, row, row, row)?;
+    let steps = places_of(alloc, row, row, row)?;
     let b = high_cell(alloc, elem, cell)?;
     Ok(VectorOrder {
         kind,

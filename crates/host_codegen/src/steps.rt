@@ -135,7 +135,7 @@ pub struct Places {
 }
 
 /// These three.
-pub fn places(
+pub fn places_of(
     alloc: Global,
     dst: SmallExpr,
     a: SmallExpr,
@@ -155,8 +155,8 @@ pub fn places(
 pub fn order_of(alloc: Global, small: SmallOrder) -> Result<VectorOrder, AllocError>
     ensures { IfOk result (λ o. vector_of o ≡ order_at small) }
 {
-    let cells = places(alloc, small.dst, small.a, small.b)?;
-    let steps = places(alloc, small.dst_step, small.a_step, small.b_step)?;
+    let cells = places_of(alloc, small.dst, small.a, small.b)?;
+    let steps = places_of(alloc, small.dst_step, small.a_step, small.b_step)?;
     let vl = small.vl.expr(alloc)?;
     let rows = small.rows.expr(alloc)?;
     Ok(VectorOrder {
