@@ -57,12 +57,15 @@ module _ (arrays : List ArrayPlace) (pass : Pass) (tile : Tile) where
   results_program =
       Both (works_program pass.kind layout (order_of pass.tree).steps) (Both (Emit AwaitLanes) tile_write_program)
 
+  -- the fills, and what is issued when the output half has its place
+  abbrev pub computed_program : Program
+  computed_program =
+      Both (each_of (length pass.leaves) leaf_fills_program) (Let (output_expr layout 9) results_program)
+
   -- a tile waits for its own reads, and for the writes from its output half
   abbrev pub waiting_program : Program
   waiting_program =
-      Both (Emit (AwaitTag (Variable 7)))
-      (Both (Emit (AwaitTag (Offset (Variable 9) 2)))
-      (Both (each_of (length pass.leaves) leaf_fills_program) (Let (output_expr layout 9) results_program)))
+      Both (Emit (AwaitTag (Variable 7))) (Both (Emit (AwaitTag (Offset (Variable 9) 2))) computed_program)
 
   abbrev pub rest_program : Program
   rest_program =

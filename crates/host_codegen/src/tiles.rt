@@ -176,17 +176,26 @@ fn results_program(alloc: Global, tiled: &TiledPass<'_>) -> Result<Program, Allo
     Program::both(alloc, works, done)
 }
 
+/// The tile's fills, and then what is issued when its output half has its place.
+fn computed_program(alloc: Global, tiled: &TiledPass<'_>) -> Result<Program, AllocError>
+    requires { IsTiled tiled.now }
+    ensures { IfOk result (λ p. program_of p ≡ spec.computed_program tiled.now.arrays.now
+        (pass_of tiled.now.pass.now) tiled.now.layout.tile) }
+{
+    let results = results_program(alloc, tiled)?;
+    let place = output_expr(alloc, tiled.layout, 9)?;
+    let placed = Program::with(alloc, place, results)?;
+    let fills = each_of(alloc, &Fills { tiled }, tiled.layout.leaves)?;
+    Program::both(alloc, fills, placed)
+}
+
 /// A tile waits for its own reads, and for the writes from its output half.
 fn waiting_program(alloc: Global, tiled: &TiledPass<'_>) -> Result<Program, AllocError>
     requires { IsTiled tiled.now }
     ensures { IfOk result (λ p. program_of p
         ≡ spec.waiting_program tiled.now.arrays.now (pass_of tiled.now.pass.now) tiled.now.layout.tile) }
 {
-    let results = results_program(alloc, tiled)?;
-    let place = output_expr(alloc, tiled.layout, 9)?;
-    let placed = Program::with(alloc, place, results)?;
-    let fills = each_of(alloc, &Fills { tiled }, tiled.layout.leaves)?;
-    let computed = Program::both(alloc, fills, placed)?;
+    let computed = computed_program(alloc, tiled)?;
     let tag = Expr::offset(alloc, Expr::Variable(9), 2)?;
     let written = Program::Emit(Order::AwaitTag(tag));
     let read = Program::Emit(Order::AwaitTag(Expr::Variable(7)));

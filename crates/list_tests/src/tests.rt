@@ -1,7 +1,7 @@
 //! Programs from their text to the bytes of their outputs.
 ghost use Rattle.std.specs.Prelude.{◌≡◌, ◌<◌, ◌≤◌, IsTrue, IfOk, All, length};
+ghost use Rattle.ven_base.specs.Limits.{cell_limit};
 ghost use Rattle.ven_base.specs.Store.{cells_alone, store_of, store_size, IsInRange};
-ghost use Rattle.spad_store.specs.Sizes.{most_cells};
 ghost use Rattle.shape_check.specs.Checked.{program_of, statement_of};
 ghost use Rattle.shape_check.specs.Meaning.{FitInputs, FitsStatement};
 ghost use Rattle.pass_plan.specs.Need.{AreSmall, need_of};
@@ -250,7 +250,7 @@ fn run(
     requires some_lanes { 0 < lanes }
     requires few_lanes { lanes ≤ 4 }
     requires some_cells { 0 < spad }
-    requires few_cells { spad ≤ most_cells }
+    requires few_cells { spad ≤ cell_limit }
 {
     if split.memory > 1_000_000 {
         return Err(Fail::from("a small program has a small memory"));
@@ -362,7 +362,7 @@ fn leaves(
     requires holds { need_of (split_of split.now).passes ≤ spad }
     requires few { nodes_in (split_of split.now) ≤ split_nodes_limit }
     requires some_cells { 0 < spad }
-    requires few_cells { spad ≤ most_cells }
+    requires few_cells { spad ≤ cell_limit }
 {
     let list = pipeline(alloc, split, spad)?;
     if list.len() > 1_000_000 || disciplined(Version::Two, &list).is_err() {
