@@ -5,4 +5,6 @@
 #![tactic(auto)]
 
 #[cfg(test)]
+mod asm;
+#[cfg(test)]
 mod isa;
