@@ -17,7 +17,5 @@ mod operand;
 mod outputs;
 mod reduce;
 mod store;
-#[cfg(test)]
-mod tests;
 
 pub use outputs::eval;

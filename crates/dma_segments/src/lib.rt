@@ -25,8 +25,6 @@ mod patches;
 mod reading;
 mod runs;
 mod segments;
-#[cfg(test)]
-mod tests;
 mod writing;
 
 pub use fill_works::{fill_work, move_kind, word_of};

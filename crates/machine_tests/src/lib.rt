@@ -7,4 +7,8 @@
 #[cfg(test)]
 mod asm;
 #[cfg(test)]
+mod host;
+#[cfg(test)]
 mod isa;
+#[cfg(test)]
+mod stores;

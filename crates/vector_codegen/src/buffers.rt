@@ -3,7 +3,7 @@ use buffer_lifetimes::Operand;
 use dma_segments::word_of;
 
 /// Where an operand's values are.
-#[derive(Clone, Copy, Debug, PartialEq, Eq)]
+#[derive(Clone, Copy)]
 pub enum Source {
     /// In the buffer with this number.
     Buffer(u32),
@@ -12,7 +12,7 @@ pub enum Source {
 }
 
 /// The elements of a buffer of `room` bytes: `rows` rows of `cols` elements that follow one another without gaps.
-#[derive(Clone, Copy, Debug, PartialEq, Eq)]
+#[derive(Clone, Copy)]
 pub struct Shape {
     pub room: u32,
     pub rows: u32,
@@ -21,7 +21,7 @@ pub struct Shape {
 
 /// The buffers of a pass, numbered from 0: two halves for each leaf, the slots, two output halves and, in a reduction,
 /// the partial result; with the halves that the tile works on.
-#[derive(Clone, Copy, Debug, PartialEq, Eq)]
+#[derive(Clone, Copy)]
 pub struct Buffers {
     pub leaves: u32,
     pub slots: u32,

@@ -22,8 +22,6 @@ mod buffers;
 mod laws;
 mod reductions;
 mod step_works;
-#[cfg(test)]
-mod tests;
 mod tile_list;
 mod vector_kind;
 
