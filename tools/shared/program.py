@@ -6,6 +6,7 @@ import tempfile
 from concurrent.futures import ThreadPoolExecutor
 from dataclasses import dataclass
 from pathlib import Path
+from threading import Thread
 
 TOP = Path(__file__).resolve().parents[2]
 
@@ -37,16 +38,32 @@ def launcher():
     return os.environ.get("VENICE") or str(TOP / "venice")
 
 
+SAID = set()
+
+
+def say_once(lines):
+    """Passes lines of standard error on, each once: the launcher says at each call which build it runs."""
+    for line in lines:
+        if line not in SAID:
+            SAID.add(line)
+            sys.stderr.write(line.decode("utf-8", "replace"))
+            sys.stderr.flush()
+
+
 def ask(*words):
-    """Calls the program with these words in the caller's folder; its standard error goes where the tool's goes."""
+    """Calls the program with these words in the caller's folder."""
     command = [launcher(), *map(os.fspath, words)]
     try:
-        made = subprocess.run(command, stdin=subprocess.DEVNULL, stdout=subprocess.PIPE, check=False)
+        with subprocess.Popen(command, stdin=subprocess.DEVNULL, stdout=subprocess.PIPE, stderr=subprocess.PIPE) as made:
+            teller = Thread(target=say_once, args=(made.stderr,))
+            teller.start()
+            output = made.stdout.read()
+            teller.join()
     except OSError as error:
         stop(f"the program {command[0]} can't be called: {error.strerror}", 127)
     if made.returncode in (126, 127):
         sys.exit(made.returncode)
-    return Answer(made.returncode if made.returncode >= 0 else 128 - made.returncode, made.stdout)
+    return Answer(made.returncode if made.returncode >= 0 else 128 - made.returncode, output)
 
 
 def processors():

@@ -57,7 +57,7 @@ def token(kind, path, text, fault, at):
     here = places.token_at(text, at)
     at_end = at >= len(text.rstrip())
     what = {"unexpected": "the text ends here" if at_end else f"`{here}` can't stand here",
-            "not ascii": f"`{here}` isn't ASCII", "name too long": "this name has more than 31 bytes",
+            "not ascii": f"{here if len(here) > 1 else f'`{here}`'} isn't ASCII", "name too long": "this name has more than 31 bytes",
             "number too large": "this number is above 4294967295"}[fault]
     if kind == "text" and text[at:at + 1] == b"\n" and not at_end:
         what = "the line ends here"

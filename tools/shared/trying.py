@@ -64,7 +64,7 @@ def candidates(kind, text, at):
         binaries = [sign for sign in words.BINARIES if sign != "-"]
         signs = [sign for sign in words.SIGNS if sign not in binaries]
         return [name, number, ("a type", words.TYPES), ("a function", words.FUNCTIONS), ("", words.STATEMENTS),
-                ("a binary sign", binaries), ("", signs)]
+                ("a binary sign", binaries), ("", signs[:6]), ("", signs[6:])]
     if kind == "inputs":
         return [name, number, ("a number with `-`", ["-1"]), ("a type", words.TYPES), ("", ["[", "]", ","])]
     if at_line_start(text, at):
@@ -89,12 +89,21 @@ def could_stand(kind, text, at):
     if len(before) > MOST:
         return []
     groups = candidates(kind, text, at)
-    tried = [token for _, tokens in groups for token in tokens]
-    longer = [LINES.get(token, token) if kind == "text" and at_line_start(text, at) else token for token in tried]
     with Room() as room:
-        calls = KINDS[kind].calls(room, [before, *(before + token.encode() for token in longer)])
-        alone, *answers = [answer.refusal for answer in ask_all(calls)]
-    fits = {token for token, long, answer in zip(tried, longer, answers) if goes_on(kind, before, long, answer, alone)}
+        calls = KINDS[kind].calls(room, [before])
+        alone = ask(*calls[0]).refusal
+
+        def fitting(tokens):
+            longer = [LINES.get(it, it) if kind == "text" and at_line_start(text, at) else it for it in tokens]
+            calls = KINDS[kind].calls(room, [before + it.encode() for it in longer])
+            answers = [answer.refusal for answer in ask_all(calls)]
+            return {it for it, long, answer in zip(tokens, longer, answers) if goes_on(kind, before, long, answer, alone)}
+
+        # Of a large group the first and the last are tried, and the others where one of these fits.
+        ends = {id(tokens): tokens if len(tokens) < 8 else [tokens[0], tokens[-1]] for _, tokens in groups}
+        fits = fitting([it for _, tokens in groups for it in ends[id(tokens)]])
+        rest = [it for _, tokens in groups if fits & set(ends[id(tokens)]) for it in tokens[1:-1] if len(tokens) >= 8]
+        fits |= fitting(rest) if rest else set()
     if kind == "text" and "x_" in fits:
         # A name may spell anything.
         fits &= {"x_", "1", "\n"}
