@@ -8,7 +8,7 @@ from shared.program import Room, ask, stop
 DEBIAN = "/usr/bin/python3"
 try:
     import numpy
-    from PIL import Image
+    from PIL import Image, ImageOps
 except ImportError as error:
     # Another Python may stand first on the path; Debian's modules are Debian's Python's.
     if os.path.exists(DEBIAN) and os.path.realpath(sys.executable) != os.path.realpath(DEBIAN) and "VENICE_AGAIN" not in os.environ:
@@ -20,10 +20,11 @@ TYPES = {"u8": "uint8", "i8": "int8", "u16": "uint16", "i16": "int16", "u32": "u
 NAMES = {numpy.dtype(kind): name for name, kind in TYPES.items()}
 HEADER = re.compile(r"([A-Za-z_]\w*)\s+([ui](?:8|16|32))\s*\[\s*(\w+)\s*,\s*(\w+)\s*\]")
 SUFFIXES = (".png", ".pgm", ".ppm", ".npy")
+LOSSY = (".jpg", ".jpeg")
 
 
 def is_picture(path):
-    return path.lower().endswith(SUFFIXES)
+    return path.lower().endswith(SUFFIXES + LOSSY)
 
 
 def number(word):
@@ -74,7 +75,7 @@ def loaded(path):
             pixels = numpy.load(path, allow_pickle=False)
         else:
             with Image.open(path) as picture:
-                pixels = numpy.array(plain(picture))
+                pixels = numpy.array(plain(ImageOps.exif_transpose(picture)))
     except OSError as error:
         stop(f"{path}: {error.strerror or 'no picture that can be read'}", 8)
     except ValueError:
@@ -120,6 +121,8 @@ def grey_of(pixels):
 
 def saved(path, pixels, scale=False):
     """Saves pixels as a picture; `scale` spreads the values from black to white."""
+    if path.lower().endswith(LOSSY):
+        stop(f"{path}: a JPEG changes the values; the result ends in {' '.join(SUFFIXES)}", 2)
     if path.lower().endswith(".npy"):
         numpy.save(path, pixels)
         return
