@@ -119,10 +119,16 @@ def grey_of(pixels):
     return weighted.astype(pixels.dtype)
 
 
+def may_save(path):
+    """Ends the tool where a picture of this name can't be saved, before there is one."""
+    if not path.lower().endswith(SUFFIXES):
+        stop(f"{path}: a JPEG changes the values; the result ends in {' '.join(SUFFIXES)}", 2)
+    if not os.path.isdir(os.path.dirname(path) or "."):
+        stop(f"{path}: there is no folder {os.path.dirname(path)}", 14)
+
+
 def saved(path, pixels, scale=False):
     """Saves pixels as a picture; `scale` spreads the values from black to white."""
-    if path.lower().endswith(LOSSY):
-        stop(f"{path}: a JPEG changes the values; the result ends in {' '.join(SUFFIXES)}", 2)
     if path.lower().endswith(".npy"):
         numpy.save(path, pixels)
         return

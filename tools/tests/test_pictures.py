@@ -186,7 +186,9 @@ class Filter(Case):
     def test_what_is_refused(self):
         self.refuses(8, "No such file", "filter", EXAMPLES / "blur.ven", "no.png", "out.png")
         self.refuses(8, "No such file", "filter", "no.ven", "in.png", "out.png")
-        self.refuses(2, "the words are PROGRAM IN OUT", "filter", EXAMPLES / "blur.ven", "in.png", "out.jpg")
+        self.refuses(2, "the words are PROGRAM IN OUT", "filter", EXAMPLES / "blur.ven", "in.png", "out.arrays")
+        self.refuses(2, "a JPEG changes the values", "filter", EXAMPLES / "blur.ven", "in.png", "out.jpg")
+        self.refuses(14, "there is no folder no", "filter", EXAMPLES / "blur.ven", "in.png", "no/out.png")
         self.refuses(2, "has the inputs a, b", "filter", EXAMPLES / "add.ven", "in.png", "out.png")
         self.refuses(3, "program unexpected", "filter", EXAMPLES / "add.asm", "in.png", "out.png")
         self.refuses(2, "is no NAME=NUMBER", "filter", EXAMPLES / "blur.ven", "in.png", "out.png", "5")
