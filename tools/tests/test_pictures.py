@@ -1,9 +1,11 @@
 """Pictures to array files and back, and pictures through programs, checked against numpy."""
 import os
+import subprocess
+import sys
 import unittest
 import unittest.mock
 
-from support import EXAMPLES, HAS_NUMBERS, TOP, Case, wants_numbers
+from support import EXAMPLES, HAS_NUMBERS, TOOLS, TOP, Case, wants_numbers
 
 if HAS_NUMBERS:
     import numpy
@@ -91,6 +93,16 @@ class Pictures(Case):
         self.refuses(4, "tools/filter does such a picture in strips", "pictures", "large.png", "b.arrays")
         self.refuses(14, "No such file", "pictures", "in.npy", "no/b.arrays")
         self.refuses(4, ".pgm is grey and .ppm is colour", "pictures", EXAMPLES / "blur.arrays", "b.ppm")
+
+
+class Missing(Case):
+    def test_what_to_install_is_said(self):
+        """Without Debian's modules (-S leaves them out) a tool says in one line what to install."""
+        for tool in ("pictures", "filter"):
+            done = subprocess.run([sys.executable, "-S", str(TOOLS / tool), "a", "b"], env={**os.environ, "VENICE_AGAIN": "1"},
+                                  capture_output=True, text=True, check=False)
+            self.assertEqual((done.returncode, len(done.stderr.splitlines())), (1, 1))
+            self.assertIn("`apt-get install python3-numpy python3-pil`", done.stderr)
 
 
 @wants_numbers
