@@ -37,7 +37,8 @@ use Rattle.array_file.specs.declared.word.Word.TheVariants as words
 use Rattle.array_file.specs.Faults.{DenotesArrays}
 use Rattle.array_file.specs.Grammar.{shape_words, heading_words, IsValue, Plain, Negative, AreValues, NoValues, MoreValues, AreArrays, NoArrays, MoreArrays}
 use Rattle.array_file.specs.Output.{shape_text, heading_text, values_text, row_text, rows_text, array_text, arrays_text}
-use Rattle.array_file.specs.Words.{type_word, elem_among, elem_named, name_word, too_large, word_of, passes, language}
+use Rattle.ven_base.specs.ElemWord.{elem_word, elem_among, elem_named}
+use Rattle.array_file.specs.Words.{name_word, too_large, word_of, passes, language}
 use Rattle.array_file.proofs.LargeNumbers.{no_large_value, no_large_shape}
 use Rattle.array_file.proofs.Vocabulary.{name_is}
 
@@ -212,7 +213,7 @@ name_reads (b ∷ bytes) word token is pre post ends =
     in_name zero le lt = absurd (omega arith)
     in_name (suc k) le lt = list_all_to is_name_byte bytes token.1 k (omega arith)
 
-reserved_type : (elem : Elem) → Contains reserved_words (type_word elem)
+reserved_type : (elem : Elem) → Contains reserved_words (elem_word elem)
 reserved_type U8 = (3, omega arith, refl)
 reserved_type I8 = (4, omega arith, refl)
 reserved_type U16 = (5, omega arith, refl)
@@ -226,12 +227,12 @@ other_word bytes word kept free true is = absurd (free (subst (Contains reserved
 
 no_elem : (elems : List Elem) (bytes : List ℕ) → ¬ IsReserved bytes → elem_among elems bytes ≡ None
 no_elem [] bytes free = refl
-no_elem (elem ∷ elems) bytes free = rw (other_word bytes (type_word elem) (reserved_type elem) free (bytes_eq bytes (type_word elem)) refl) (no_elem elems bytes free)
+no_elem (elem ∷ elems) bytes free = rw (other_word bytes (elem_word elem) (reserved_type elem) free (bytes_eq bytes (elem_word elem)) refl) (no_elem elems bytes free)
 
 name_says : (name : List ℕ) → IsName name → word_of kinds.Name name ≡ Some (words.Name name)
 name_says name h = ap (λ o. name_word o name) (no_elem (U8 ∷ I8 ∷ U16 ∷ I16 ∷ U32 ∷ I32 ∷ []) name h.free) ∙ sym (name_is name name h.token h refl)
 
-type_token : (elem : Elem) → IsNameToken (type_word elem)
+type_token : (elem : Elem) → IsNameToken (elem_word elem)
 type_token U8 = (refl, refl)
 type_token I8 = (refl, refl)
 type_token U16 = (refl, refl)
@@ -239,7 +240,7 @@ type_token I16 = (refl, refl)
 type_token U32 = (refl, refl)
 type_token I32 = (refl, refl)
 
-type_says : (elem : Elem) → word_of kinds.Name (type_word elem) ≡ Some (words.Elem elem)
+type_says : (elem : Elem) → word_of kinds.Name (elem_word elem) ≡ Some (words.Elem elem)
 type_says U8 = refl
 type_says I8 = refl
 type_says U16 = refl
@@ -448,11 +449,11 @@ shape_reads shape h =
 
 heading_reads : (name : List ℕ) (elem : Elem) (shape : Extent) → IsName name → IsExtent shape → Reads Any (heading_text name elem shape) (heading_words name elem shape)
 heading_reads name elem shape named extent =
-    let kind = blank Ends (type_word elem) (words.Elem elem ∷ []) (omega arith) (name_reads (type_word elem) (words.Elem elem) (type_token elem) (type_says elem)) in
-    let two = join Ends Ends name (32 ∷ type_word elem) (words.Name name ∷ []) (words.Elem elem ∷ []) (name_reads name (words.Name name) named.token (name_says name named)) kind (λ post ends some. refl) in
-    let front : name ++ (32 ∷ type_word elem) ≡ (name ++ codes " ") ++ type_word elem = sym (append_assoc name (codes " ") (type_word elem)) in
+    let kind = blank Ends (elem_word elem) (words.Elem elem ∷ []) (omega arith) (name_reads (elem_word elem) (words.Elem elem) (type_token elem) (type_says elem)) in
+    let two = join Ends Ends name (32 ∷ elem_word elem) (words.Name name ∷ []) (words.Elem elem ∷ []) (name_reads name (words.Name name) named.token (name_says name named)) kind (λ post ends some. refl) in
+    let front : name ++ (32 ∷ elem_word elem) ≡ (name ++ codes " ") ++ elem_word elem = sym (append_assoc name (codes " ") (elem_word elem)) in
     subst (λ t. Reads Any (t ++ shape_text shape) (heading_words name elem shape)) front
-    (join Ends Any (name ++ (32 ∷ type_word elem)) (shape_text shape) (words.Name name ∷ words.Elem elem ∷ []) (shape_words shape) two (shape_reads shape extent) (λ post any some. refl))
+    (join Ends Any (name ++ (32 ∷ elem_word elem)) (shape_text shape) (words.Name name ∷ words.Elem elem ∷ []) (shape_words shape) two (shape_reads shape extent) (λ post any some. refl))
 
 abbrev pub array_words : List ℕ → Grid → List Word
 array_words name grid = heading_words name grid.elem grid.shape ++ values_words grid.values

@@ -7,7 +7,7 @@ use Rattle.ven_base.specs.declared.elem.Elem.{Elem}
 use Rattle.ven_base.specs.Extent.{Extent}
 use Rattle.ven_base.specs.Grid.{Grid}
 use Rattle.ven_base.specs.Pairs.{Pairs}
-use Rattle.array_file.specs.Words.{type_word}
+use Rattle.ven_base.specs.ElemWord.{elem_word}
 
 -- `[R,C]` and a line end
 abbrev pub shape_text : Extent → List ℕ
@@ -15,7 +15,7 @@ shape_text shape = codes "[" ++ decimal shape.rows ++ codes "," ++ decimal shape
 
 -- `NAME TYPE[R,C]` and a line end
 abbrev pub heading_text : List ℕ → Elem → Extent → List ℕ
-heading_text name elem shape = name ++ codes " " ++ type_word elem ++ shape_text shape
+heading_text name elem shape = name ++ codes " " ++ elem_word elem ++ shape_text shape
 
 -- numbers in decimal, with one space between
 abbrev pub values_text : List ℤ → List ℕ

@@ -3,7 +3,7 @@ use Rattle.std.specs.Prelude.{ℕ, ◌+◌, min, nat_le, not, ◌&&◌, Bool, tr
 use Rattle.std.specs.List.{list_any}
 use Rattle.std.specs.Str.{bytes_eq}
 use Rattle.ven_base.specs.declared.elem.Elem.{Elem}
-use Rattle.ven_base.specs.declared.elem.Elem.TheVariants.{U8, I8, U16, I16, U32, I32}
+use Rattle.ven_base.specs.ElemWord.{elem_named}
 use Rattle.ven_base.specs.Name.{name_limit, reserved_words}
 use Rattle.ven_io.specs.declared.token.Token.{Token}
 use Rattle.ven_io.specs.declared.token.TokenKind.{TokenKind}
@@ -12,23 +12,6 @@ use Rattle.ven_io.specs.Number.{value_of, number_limit}
 use Rattle.ven_io.specs.Tokens.{Language}
 use Rattle.array_file.specs.declared.word.Word.{Word}
 use Rattle.array_file.specs.declared.word.Word.TheVariants as words
-
--- the word of an element type
-abbrev pub type_word : Elem → List ℕ
-type_word U8 = codes "u8"
-type_word I8 = codes "i8"
-type_word U16 = codes "u16"
-type_word I16 = codes "i16"
-type_word U32 = codes "u32"
-type_word I32 = codes "i32"
-
--- the element type among these whose word the bytes are
-abbrev pub elem_among : List Elem → List ℕ → Option Elem
-elem_among [] bytes = None
-elem_among (elem ∷ elems) bytes = if bytes_eq bytes (type_word elem) then Some elem else elem_among elems bytes
-
-abbrev pub elem_named : List ℕ → Option Elem
-elem_named bytes = elem_among (U8 ∷ I8 ∷ U16 ∷ I16 ∷ U32 ∷ I32 ∷ []) bytes
 
 -- the array language keeps the name token for itself
 abbrev pub is_kept : List ℕ → Bool

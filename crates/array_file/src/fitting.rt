@@ -4,23 +4,18 @@ ghost use Rattle.std.specs.Prelude.{◌↔◌, length, IsTrue, MatchResult};
 ghost use Rattle.array_file.specs.Fitting.{Fits, IsUnfit, ListsInput};
 ghost use Rattle.array_file.specs.Matching.{IsInputNamed, FitsEntry, Refuses, FitsUpTo};
 
-use thiserror::Error;
 use ven_base::{Arrays, Entry, Name};
 
 /// Why arrays don't fit a table (docs/FORMATS.md, "Fitting").
-#[derive(Clone, Copy, Debug, PartialEq, Eq, Error)]
+#[derive(Clone, Copy)]
 pub enum FitFault {
     /// No array has this input's name.
-    #[error("missing {name:?}")]
     Missing { name: Name },
     /// The array has another type than the input.
-    #[error("type {name:?}")]
     TypeWrong { name: Name },
     /// The array has another shape than the input.
-    #[error("shape {name:?}")]
     ShapeWrong { name: Name },
     /// The array is no input of the table.
-    #[error("extra {name:?}")]
     Extra { name: Name },
 }
 

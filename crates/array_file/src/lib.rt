@@ -18,8 +18,6 @@ mod laws;
 mod output;
 mod phase;
 mod reading;
-#[cfg(test)]
-mod tests;
 mod tokens;
 mod word;
 mod words;

@@ -4,7 +4,6 @@ ghost use Rattle.std.specs.Prelude.{◌≡◌, ◌*◌, ◌++◌, length, IfOk, 
 ghost use Rattle.array_file.specs.Faults.{DenotesArrays};
 ghost use Rattle.array_file.specs.Output.{shape_text, heading_text, row_text, rows_text, array_text, arrays_text};
 
-use crate::words::type_word;
 use itoa::Buffer;
 use std::alloc::{AllocError, Global};
 use ven_base::{Array, Arrays, Elem, Name, Shape};
@@ -27,7 +26,7 @@ fn push_heading(text: &mut Vec<u8>, name: &Name, elem: Elem, shape: Shape) -> Re
 {
     text.extend_from_slice(name.bytes())?;
     text.push(b' ')?;
-    text.extend_from_slice(type_word(elem))?;
+    text.extend_from_slice(elem.word())?;
     push_shape(text, shape.rows, shape.cols)?;
     Ok(())
 }

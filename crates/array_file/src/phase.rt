@@ -3,7 +3,7 @@
 use ven_base::{Elem, Name, Shape};
 
 /// An array's name and type, and the place of its shape's `[`, in bytes from 0.
-#[derive(Clone, Copy, Debug)]
+#[derive(Clone, Copy)]
 pub struct Opening {
     pub name: Name,
     pub elem: Elem,
@@ -11,7 +11,7 @@ pub struct Opening {
 }
 
 /// An array's name, type and shape.
-#[derive(Clone, Copy, Debug)]
+#[derive(Clone, Copy)]
 pub struct Heading {
     pub name: Name,
     pub elem: Elem,
@@ -20,7 +20,7 @@ pub struct Heading {
 
 /// What has just been read: a part of an array's heading, or its values so far. Numbers are rows and columns; the
 /// place of a `-` is in bytes from 0.
-#[derive(Clone, Copy, Debug)]
+#[derive(Clone, Copy)]
 pub enum Phase {
     Begin,
     AfterName(Name),

@@ -21,7 +21,7 @@ use ven_io::{Token, TokenFault, TokenKind};
 
 /// What has been read, up to the place `from`, in bytes from 0: whole arrays, a phase of the next one, and its values
 /// so far.
-#[derive(Debug, Drop)]
+#[derive(Drop)]
 pub struct Reading {
     pub arrays: Arrays,
     pub phase: Phase,

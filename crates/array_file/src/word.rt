@@ -3,7 +3,7 @@
 use ven_base::{Elem, Name};
 
 /// What a token says. A number above 4,294,967,295 counts as one more than that.
-#[derive(Clone, Copy, Debug, PartialEq)]
+#[derive(Clone, Copy)]
 pub enum Word {
     Name(Name),
     Elem(Elem),

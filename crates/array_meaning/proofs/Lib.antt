@@ -1,4 +1,3 @@
 pub mod Loops
 pub mod Values
 pub mod Statements
-pub mod Samples

@@ -2,4 +2,3 @@ pub mod Operand
 pub mod Sources
 pub mod Rows
 pub mod Store
-pub mod Samples

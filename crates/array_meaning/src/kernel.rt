@@ -3,12 +3,11 @@
 ghost use Rattle.std.specs.Prelude.{◌≡◌, IfOk};
 ghost use Rattle.array_meaning.specs.Sources.{AreThere, AreElements, HaveElements, results1, results2, casts, choices};
 
-use crate::element::{Element, TypeI8, TypeI16, TypeI32, TypeU8, TypeU16, TypeU32};
 use crate::fill::filled;
 use crate::nodes::{Cast, One, Select, Two};
 use crate::operand::View;
 use std::alloc::{AllocError, Global};
-use ven_base::{Elem, Op1, Op2};
+use ven_base::{Elem, KnownElem, Op1, Op2, TypeI8, TypeI16, TypeI32, TypeU8, TypeU16, TypeU32};
 
 /// The results of an operation on numbers of the type, at so many places.
 pub(crate) fn one(
@@ -33,7 +32,12 @@ pub(crate) fn one(
 
 /// The same of one type. The operation is written out in each arm, so that its loop is compiled for it.
 #[inline(never)]
-fn one_of<E: Element>(alloc: Global, op: Op1, count: usize, a: View) -> Result<Vec<i64>, AllocError>
+fn one_of<E: KnownElem>(
+    alloc: Global,
+    op: Op1,
+    count: usize,
+    a: View,
+) -> Result<Vec<i64>, AllocError>
     requires { AreElements E.ELEM count a }
     ensures { IfOk result (λ v. v.items ≡ results1 op E.ELEM count a.entry) }
 {
@@ -45,7 +49,12 @@ fn one_of<E: Element>(alloc: Global, op: Op1, count: usize, a: View) -> Result<V
 }
 
 #[inline(always)]
-fn one_by<E: Element>(alloc: Global, op: Op1, count: usize, a: View) -> Result<Vec<i64>, AllocError>
+fn one_by<E: KnownElem>(
+    alloc: Global,
+    op: Op1,
+    count: usize,
+    a: View,
+) -> Result<Vec<i64>, AllocError>
     requires { AreElements E.ELEM count a }
     ensures { IfOk result (λ v. v.items ≡ results1 op E.ELEM count a.entry) }
 {
@@ -84,7 +93,7 @@ pub(crate) fn two(
 
 /// The same of one type.
 #[inline(never)]
-fn two_of<E: Element>(
+fn two_of<E: KnownElem>(
     alloc: Global,
     op: Op2,
     count: usize,
@@ -117,7 +126,7 @@ fn two_of<E: Element>(
 }
 
 #[inline(always)]
-fn two_by<E: Element>(
+fn two_by<E: KnownElem>(
     alloc: Global,
     op: Op2,
     count: usize,
@@ -155,7 +164,7 @@ pub(crate) fn cast(alloc: Global, elem: Elem, count: usize, a: View) -> Result<V
 }
 
 /// The same of one type.
-fn cast_to<E: Element>(alloc: Global, count: usize, a: View) -> Result<Vec<i64>, AllocError>
+fn cast_to<E: KnownElem>(alloc: Global, count: usize, a: View) -> Result<Vec<i64>, AllocError>
     requires { AreThere count a }
     ensures { IfOk result (λ v. v.items ≡ casts E.ELEM count a.entry) }
 {

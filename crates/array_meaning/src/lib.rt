@@ -8,7 +8,6 @@
 //! operation of a node are chosen once, and its loop is compiled for them.
 #![tactic(auto)]
 
-mod element;
 mod evaluation;
 mod fill;
 mod kernel;
@@ -18,7 +17,5 @@ mod operand;
 mod outputs;
 mod reduce;
 mod store;
-#[cfg(test)]
-mod tests;
 
 pub use outputs::eval;

@@ -18,7 +18,7 @@ use Rattle.ven_base.specs.declared.ops.Op1.{Op1}
 use Rattle.ven_base.specs.declared.ops.Op1.TheVariants as unary
 use Rattle.ven_base.specs.declared.ops.Op2.{Op2}
 use Rattle.ven_base.specs.declared.ops.Op2.TheVariants as binary
-use Rattle.ven_base.specs.Name.{IsNameToken, reserved_words}
+use Rattle.ven_base.specs.Name.{IsNameToken, reserved_words, name_limit}
 use Rattle.ven_io.specs.declared.token.TokenKind.TheVariants as token_kinds
 use Rattle.ven_io.specs.declared.token.Token.{Token as TextToken}
 use Rattle.ven_io.specs.Number.{number_limit}
@@ -46,12 +46,13 @@ use Rattle.array_syntax.specs.Grammar as grammar
 use Rattle.array_syntax.specs.Grammar.{token, expr, minus, IsNumber, bound, IsNumberArgument, Plain, Signed, AreNumbers, IsExpr, IsBegun, Opened, Argued, AreStatements}
 use Rattle.array_syntax.specs.Limits as limits
 use Rattle.array_syntax.specs.Limits.{IsFreeName, IsSigned, IsWritable, KeepsStatement, KeepsLimits, own_words}
+use Rattle.ven_base.specs.ElemWord.{elem_word}
 use Rattle.array_syntax.specs.Printed as printed
-use Rattle.array_syntax.specs.Printed.{elem_word, row_fold_word, fold_word, in_brackets, IsLiteral, negated, one_text, numbers_text, two_text, expr_text, line_of, lines_of, bare, SameApart, AreSameApart, DenotesApart}
+use Rattle.array_syntax.specs.Printed.{row_fold_word, fold_word, in_brackets, IsLiteral, negated, one_text, numbers_text, two_text, expr_text, line_of, lines_of, bare, SameApart, AreSameApart, DenotesApart}
 use Rattle.array_syntax.specs.Table.{loosest, level, left_level, right_level, operation, operands, takes_sign, call_of, map_of}
 use Rattle.array_syntax.specs.Tree as trees
 use Rattle.array_syntax.specs.Tree.{Tree, tree_of}
-use Rattle.array_syntax.specs.Words.{keywords, look_up, name_word, word_of, language, most_name_bytes}
+use Rattle.array_syntax.specs.Words.{keywords, look_up, name_word, word_of, language}
 use Rattle.array_syntax.proofs.Pieces.{Closes, IsClosed, Any, Reads, IsOne, AreSome, name_reads, sealed_reads, sign_reads, double_reads, number_reads, bind, word_then, last, seen_as, blank, blank_word, line_reads, nothing_reads}
 use Rattle.array_syntax.proofs.Trees.{tree_name, tree_literal, tree_one, tree_two, tree_cast, tree_select, tree_shift, tree_rotate, tree_section, tree_stretch, tree_transpose, tree_row_fold, tree_fold}
 use Rattle.array_syntax.proofs.Vocabulary.{spellings}
@@ -79,9 +80,9 @@ no_keyword name free (Some word) is = absurd (one_of (list_any (bytes_eq name) r
     one_of false false p q e = cc
 
 name_is : (name : List ℕ) → IsFreeName name → word_of token_kinds.Name name ≡ Some (words.Name name)
-name_is name free = ap (λ o. name_word o name) (no_keyword name free (look_up keywords name) refl) ∙ by (nat_le (length name) most_name_bytes) (short (length name) free.name.short)
+name_is name free = ap (λ o. name_word o name) (no_keyword name free (look_up keywords name) refl) ∙ by (nat_le (length name) name_limit) (short (length name) free.name.short)
   where
-    short : (n : ℕ) → n ≤ 31 → nat_le n most_name_bytes ≡ true
+    short : (n : ℕ) → n ≤ 31 → nat_le n name_limit ≡ true
     short n le = grind arith
 
     by : (b : Bool) → b ≡ true → (if b then Some (words.Name name) else None) ≡ Some (words.Name name)

@@ -4,7 +4,7 @@ use Rattle.std.specs.Prelude.{nat_le, nat_lt, pos, neg_ℤ, ℤ}
 use Rattle.ven_base.specs.declared.elem.Elem.TheVariants as elems
 use Rattle.ven_base.specs.declared.ops.Op1.TheVariants as unary
 use Rattle.ven_io.specs.Reader.{Reader, Begins, Follows as FollowsGrammar, run_from}
-use Rattle.ven_io.proofs.Readers.{run_on, begins_iff}
+use Rattle.ven_io.proofs.Readers.{run_on, begins_iff, one_value}
 use Rattle.array_syntax.specs.declared.call.Earlier.{Earlier}
 use Rattle.array_syntax.specs.declared.call.Earlier.TheVariants as earlier
 use Rattle.array_syntax.specs.declared.call.MapCall.{MapCall}
@@ -42,7 +42,7 @@ use Rattle.std.specs.Prelude.{max}
 use Rattle.array_syntax.specs.declared.machine.Phase.{Phase}
 use Rattle.array_syntax.specs.declared.machine.Phase.TheVariants as phases
 use Rattle.array_syntax.specs.Steps.{opens, IsHigher, IsTooHigh, is_operand, is_sign, is_prefixed, begins_node, and_one, IsDeep, IsCrowded, IsFull, IsSignDeep, IsSignFull, depth_in}
-use Rattle.array_syntax.specs.Words.{most_name_bytes, keywords, sign_words, look_up, name_word, word_of, language}
+use Rattle.array_syntax.specs.Words.{keywords, sign_words, look_up, name_word, word_of, language}
 use Rattle.ven_io.specs.declared.token.TokenFault.{TokenFault}
 use Rattle.ven_io.specs.declared.token.TokenFault.TheVariants as token_faults
 use Rattle.ven_io.specs.declared.token.TokenKind.{TokenKind}
@@ -63,7 +63,7 @@ use Rattle.array_syntax.specs.declared.program.Program.{Program}
 use Rattle.array_syntax.specs.Parsing.{StandsFrom, IsPending, IsClean, HasRead, fault_at}
 use Rattle.array_syntax.specs.Steps.{Advanced, Finished, Settled, sign_place}
 use Rattle.array_syntax.proofs.Complete.{reads_program}
-use Rattle.array_syntax.proofs.Going.{begins_read, denotes_read}
+use Rattle.array_syntax.proofs.Going.{begins_read, denotes_read, follows}
 use Rattle.array_syntax.proofs.Opening.{OpensMany, WaitsDeep, deep_opens, opens_deep, low_step, node_counts, counted_node}
 use Rattle.array_syntax.proofs.Reducing.{some_is, none_some}
 use Rattle.array_syntax.proofs.Stepping.{is_read}
@@ -396,3 +396,14 @@ clean_more text tokens s raw t a clean low goes shallow thin few us rest own nex
         let next_is : next ≡ Ok raw = same_seen text tokens raw next own a.behind at_tokens is in
         subst (λ r. IsPending (step s t) r cause) (sym none)
         (taken_pending text tokens s raw t a low goes shallow thin few cause (subst (λ n. Holds text tokens n cause) next_is (subst (λ ts. Holds text ts next cause) same holds)))
+
+-- two programs that a text denotes are one
+pub one_program : (text : List ℕ) (one other : Program) → Denotes text one → Denotes text other → one ≡ other
+one_program text one other h g = by (one_text language text h.tokens g.tokens (Ok h.end) (Ok g.end) h.behind g.behind)
+  where
+    by : Meets language text h.tokens (Ok h.end) g.tokens (Ok g.end) → one ≡ other
+    by (Same all is) =
+        let same : one.stmts ≡ other.stmts = one_value AreStatements reader follows h.tokens one.stmts other.stmts h.statements (subst (λ ts. AreStatements ts other.stmts) (sym all) g.statements) in
+        λ i. record { stmts = same i }
+    by (Before b) = absurd (none_some b.own (sym (end_seen text h.end h.is_end) ∙ ap (seen text) b.is ∙ b.takes))
+    by (After b) = absurd (none_some b.own (sym (end_seen text g.end g.is_end) ∙ ap (seen text) b.is ∙ b.takes))

@@ -42,7 +42,7 @@ use Rattle.std.specs.Prelude.{max}
 use Rattle.array_syntax.specs.declared.machine.Phase.{Phase}
 use Rattle.array_syntax.specs.declared.machine.Phase.TheVariants as phases
 use Rattle.array_syntax.specs.Steps.{opens, IsHigher, IsTooHigh, is_operand, is_sign, is_prefixed, begins_node, and_one, IsDeep, IsCrowded, IsFull, IsSignDeep, IsSignFull, depth_in}
-use Rattle.array_syntax.specs.Words.{most_name_bytes, keywords, sign_words, look_up, name_word, word_of, language}
+use Rattle.array_syntax.specs.Words.{keywords, sign_words, look_up, name_word, word_of, language}
 use Rattle.ven_io.specs.declared.token.TokenFault.{TokenFault}
 use Rattle.ven_io.specs.declared.token.TokenFault.TheVariants as token_faults
 use Rattle.ven_io.specs.declared.token.TokenKind.{TokenKind}

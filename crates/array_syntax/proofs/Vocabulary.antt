@@ -34,7 +34,7 @@ use Rattle.array_syntax.specs.Grammar.{token, expr, minus, IsNumber, count, foll
 use Rattle.array_syntax.specs.Reading as reading
 use Rattle.array_syntax.specs.Reading.{State, Begin, AfterWord, AfterName, Want, Minus, Called, Have, WantNumber, SignedNumber, HaveNumber, Stuck, room, choose, one, two, reduce, tight, reach_of, op_of, placed, made, mapped, argued, close, act_of, act, want, after_minus, called, with_value, want_number, signed_number, have_number, begin, input, after_word, after_name, step, ending, reader, run, depth_of, count_of, nodes_read, unless_number, wanted}
 use Rattle.array_syntax.specs.Table.{loosest, level, left_level, right_level, operands, numbers, takes_sign, call_of, map_of}
-use Rattle.array_syntax.specs.Words.{most_name_bytes, keywords, sign_words, look_up, name_word, word_of, language}
+use Rattle.array_syntax.specs.Words.{keywords, sign_words, look_up, name_word, word_of, language}
 use Rattle.ven_io.specs.declared.token.TokenFault.{TokenFault}
 use Rattle.ven_io.specs.declared.token.TokenFault.TheVariants as token_faults
 use Rattle.ven_io.specs.declared.token.TokenKind.{TokenKind}
@@ -51,7 +51,7 @@ use Rattle.std.specs.Str.{bytes_eq}
 use Rattle.std.specs.Cmp.Lexicographic.{nat_list_eq_equiv}
 use Rattle.std.proofs.lemmas.Map.Views.{list_any-from_Contains}
 use Rattle.std.proofs.lemmas.Slice.Eq.{bytes_eq-Decides}
-use Rattle.ven_base.specs.Name.{IsNameToken, IsName, reserved_words}
+use Rattle.ven_base.specs.Name.{IsNameToken, IsName, reserved_words, name_limit}
 use Rattle.array_syntax.specs.Limits.{IsFreeName, own_words}
 use Rattle.array_syntax.proofs.Reducing.{some_is, none_some}
 
@@ -64,13 +64,13 @@ same_bytes xs ys h = (bytes_eq-Decides xs ys).0 h
 -- what is found in a table has one of its spellings
 abbrev pub AllShort : List (List ℕ × Word) → Type 0
 AllShort [] = Unit {0}
-AllShort (entry ∷ table) = (length entry.0 ≤ most_name_bytes) × AllShort table
+AllShort (entry ∷ table) = (length entry.0 ≤ name_limit) × AllShort table
 
-found_here : (entry : List ℕ × Word) (table : List (List ℕ × Word)) (bytes : List ℕ) (word : Word) → length entry.0 ≤ most_name_bytes → (look_up table bytes ≡ Some word → length bytes ≤ most_name_bytes) → (b : Bool) → bytes_eq bytes entry.0 ≡ b → (if b then Some entry.1 else look_up table bytes) ≡ Some word → length bytes ≤ most_name_bytes
+found_here : (entry : List ℕ × Word) (table : List (List ℕ × Word)) (bytes : List ℕ) (word : Word) → length entry.0 ≤ name_limit → (look_up table bytes ≡ Some word → length bytes ≤ name_limit) → (b : Bool) → bytes_eq bytes entry.0 ≡ b → (if b then Some entry.1 else look_up table bytes) ≡ Some word → length bytes ≤ name_limit
 found_here entry table bytes word short ih true is found = let same = ap length (same_bytes bytes entry.0 is) in omega arith
 found_here entry table bytes word short ih false is found = ih found
 
-found_short : (table : List (List ℕ × Word)) (bytes : List ℕ) (word : Word) → AllShort table → look_up table bytes ≡ Some word → length bytes ≤ most_name_bytes
+found_short : (table : List (List ℕ × Word)) (bytes : List ℕ) (word : Word) → AllShort table → look_up table bytes ≡ Some word → length bytes ≤ name_limit
 found_short [] bytes word short found = absurd (none_some word found)
 found_short (entry ∷ table) bytes word short found = found_here entry table bytes word short.0 (λ f. found_short table bytes word short.1 f) (bytes_eq bytes entry.0) refl found
 
@@ -129,16 +129,16 @@ is_false : (a b : ℕ) → b < a → nat_le a b ≡ false
 is_false a b lt = grind arith
 
 -- a name that is too long has no word
-long_none : (bytes : List ℕ) → most_name_bytes < length bytes → (o : Option Word) → look_up keywords bytes ≡ o → name_word o bytes ≡ None
+long_none : (bytes : List ℕ) → name_limit < length bytes → (o : Option Word) → look_up keywords bytes ≡ o → name_word o bytes ≡ None
 long_none bytes long (Some word) is = let short = found_short keywords bytes word keywords_short is in absurd (omega arith)
-long_none bytes long None is = ap (λ b. if b then Some (words.Name bytes) else None) (is_false (length bytes) most_name_bytes long)
+long_none bytes long None is = ap (λ b. if b then Some (words.Name bytes) else None) (is_false (length bytes) name_limit long)
 
 large_none : (bytes : List ℕ) → number_limit < value_of bytes → word_of token_kinds.Number bytes ≡ None
 large_none bytes large = ap (λ b. if b then Some (words.Number (value_of bytes)) else None) (is_false (value_of bytes) number_limit large)
 
 -- which tokens have no word
 abbrev pub HasNone : TokenKind → List ℕ → Type 0
-HasNone token_kinds.Name bytes = most_name_bytes < length bytes
+HasNone token_kinds.Name bytes = name_limit < length bytes
 HasNone token_kinds.Number bytes = number_limit < value_of bytes
 HasNone token_kinds.Sign bytes = ⊥
 HasNone _ bytes = Unit {0}
@@ -150,11 +150,11 @@ no_word token_kinds.Sign bytes h = absurd h
 no_word token_kinds.Line bytes h = refl
 no_word token_kinds.End bytes h = refl
 
-name_none : (bytes : List ℕ) (o : Option Word) → name_word o bytes ≡ None → most_name_bytes < length bytes
+name_none : (bytes : List ℕ) (o : Option Word) → name_word o bytes ≡ None → name_limit < length bytes
 name_none bytes (Some word) is = absurd (none_some word (sym is))
-name_none bytes None is = long_of (length bytes) (nat_le (length bytes) most_name_bytes) refl is
+name_none bytes None is = long_of (length bytes) (nat_le (length bytes) name_limit) refl is
   where
-    long_of : (n : ℕ) (b : Bool) → nat_le n most_name_bytes ≡ b → (if b then Some (words.Name bytes) else None) ≡ None → most_name_bytes < n
+    long_of : (n : ℕ) (b : Bool) → nat_le n name_limit ≡ b → (if b then Some (words.Name bytes) else None) ≡ None → name_limit < n
     long_of n true le is = absurd (none_some (words.Name bytes) (sym is))
     long_of n false le is = grind arith
 
@@ -194,9 +194,9 @@ signs_fit = (tt, (tt, (tt, (tt, (tt, (tt, (tt, (tt, (tt, (tt, (tt, (tt, (tt, (tt
 
 name_fits : (bytes : List ℕ) (word : Word) → IsNameToken bytes → (o : Option Word) → look_up keywords bytes ≡ o → name_word o bytes ≡ Some word → Fits word
 name_fits bytes word token (Some kept) is found = subst Fits (some_is kept word found) (found_fits keywords bytes kept keywords_fit is)
-name_fits bytes word token None is found = free_by (nat_le (length bytes) most_name_bytes) refl found
+name_fits bytes word token None is found = free_by (nat_le (length bytes) name_limit) refl found
   where
-    free_by : (b : Bool) → nat_le (length bytes) most_name_bytes ≡ b → (if b then Some (words.Name bytes) else None) ≡ Some word → Fits word
+    free_by : (b : Bool) → nat_le (length bytes) name_limit ≡ b → (if b then Some (words.Name bytes) else None) ≡ Some word → Fits word
     free_by true le found = subst Fits (some_is (words.Name bytes) word found) (record { name = record { token = token; short = grind arith; free = free_of_reserved bytes is }; free = free_of_own bytes is })
     free_by false le found = absurd (none_some word found)
 
@@ -212,8 +212,8 @@ word_fits _ bytes word spelled found = absurd (none_some word found)
 
 -- where the bytes are no name, and no word is kept for them, they are too long
 pub name_refused : (bytes : List ℕ) → IsNameToken bytes → None ≡ look_up keywords bytes → ¬ IsName bytes → None ≡ name_word (look_up keywords bytes) bytes
-name_refused bytes token none refused = by (nat_le (length bytes) most_name_bytes) refl ∙ ap (λ o. name_word o bytes) none
+name_refused bytes token none refused = by (nat_le (length bytes) name_limit) refl ∙ ap (λ o. name_word o bytes) none
   where
-    by : (b : Bool) → nat_le (length bytes) most_name_bytes ≡ b → None ≡ name_word None bytes
+    by : (b : Bool) → nat_le (length bytes) name_limit ≡ b → None ≡ name_word None bytes
     by true le = absurd (refused (record { token = token; short = grind arith; free = free_of_reserved bytes (sym none) }))
     by false le = ap (λ b. if b then Some (words.Name bytes) else None) (sym le)

@@ -9,6 +9,7 @@ use Rattle.ven_io.specs.Number.{value_of, number_limit}
 use Rattle.ven_io.specs.Reader.{Begins}
 use Rattle.ven_io.specs.Tokens.{Language, IsBehind, place_of}
 use Rattle.ven_base.specs.First.{IsFirst}
+use Rattle.ven_base.specs.Name.{name_limit}
 use Rattle.array_syntax.specs.declared.call.Earlier.{Earlier}
 use Rattle.array_syntax.specs.declared.call.Earlier.TheVariants as earlier
 use Rattle.array_syntax.specs.declared.fault.ParseFault.{ParseFault}
@@ -27,7 +28,7 @@ use Rattle.array_syntax.specs.Grammar.{token, minus, IsNumber, IsExpr, IsBegun, 
 use Rattle.array_syntax.specs.Limits.{most_statements, most_nodes, most_height, nodes, program_nodes, height}
 use Rattle.array_syntax.specs.Table.{loosest, level, left_level, right_level}
 use Rattle.array_syntax.specs.Tree.{tree_of}
-use Rattle.array_syntax.specs.Words.{most_name_bytes, language}
+use Rattle.array_syntax.specs.Words.{language}
 
 -- some sentence of the grammar, whatever its depth, nodes and statements, begins with these tokens
 abbrev pub BeginsSentence : List Token → Type 0
@@ -144,7 +145,7 @@ IsNotAscii (Err (token_faults.NotAscii at)) = Unit {0}
 IsNotAscii _ = ⊥
 
 abbrev pub IsLongName : List ℕ → Result TextToken TokenFault → Type 0
-IsLongName text (Ok next) = (next.kind ≡ token_kinds.Name) × (most_name_bytes < length (bytes_of text next))
+IsLongName text (Ok next) = (next.kind ≡ token_kinds.Name) × (name_limit < length (bytes_of text next))
 IsLongName text (Err fault) = ⊥
 
 abbrev pub IsLargeNumber : List ℕ → Result TextToken TokenFault → Type 0

@@ -2,7 +2,7 @@
 use Rattle.std.specs.Prelude.{◌≡◌, ℕ, ℤ, List, [], ◌∷◌, ◌++◌, codes}
 use Rattle.std.specs.Fmt.{signed_decimal}
 use Rattle.ven_base.specs.declared.elem.Elem.{Elem}
-use Rattle.ven_base.specs.declared.elem.Elem.TheVariants as elems
+use Rattle.ven_base.specs.ElemWord.{elem_word}
 use Rattle.ven_base.specs.declared.ops.Fold.{Fold as Reduction}
 use Rattle.ven_base.specs.declared.ops.Fold.TheVariants as folds
 use Rattle.ven_base.specs.declared.ops.Op1.{Op1}
@@ -15,15 +15,6 @@ use Rattle.array_syntax.specs.declared.program.Stmt.{Stmt}
 use Rattle.array_syntax.specs.declared.program.Stmt.TheVariants as stmts
 use Rattle.array_syntax.specs.Faults.{Denotes}
 use Rattle.array_syntax.specs.Tree.{Tree, Name, Literal, One, Two, Cast, Select, Shift, Rotate, Section, Stretch, Transpose, RowFold, Fold, tree_of}
-
--- the word of an element type
-abbrev pub elem_word : Elem → List ℕ
-elem_word elems.U8 = codes "u8"
-elem_word elems.I8 = codes "i8"
-elem_word elems.U16 = codes "u16"
-elem_word elems.I16 = codes "i16"
-elem_word elems.U32 = codes "u32"
-elem_word elems.I32 = codes "i32"
 
 -- the function that reduces each row
 abbrev pub row_fold_word : Reduction → List ℕ

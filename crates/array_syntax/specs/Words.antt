@@ -8,16 +8,13 @@ use Rattle.ven_io.specs.Number.{value_of, number_limit}
 use Rattle.ven_io.specs.Tokens.{Language}
 use Rattle.ven_base.specs.declared.elem.Elem.TheVariants as elems
 use Rattle.ven_base.specs.declared.ops.Fold.TheVariants as folds
+use Rattle.ven_base.specs.Name.{name_limit}
 use Rattle.array_syntax.specs.declared.word.Binding.TheVariants as bindings
 use Rattle.array_syntax.specs.declared.word.Callee.TheVariants as callees
 use Rattle.array_syntax.specs.declared.word.Operator.TheVariants as operators
 use Rattle.array_syntax.specs.declared.word.Token.{Token}
 use Rattle.array_syntax.specs.declared.word.Word.{Word}
 use Rattle.array_syntax.specs.declared.word.Word.TheVariants as words
-
--- the most bytes of a name
-abbrev pub most_name_bytes : ℕ
-most_name_bytes = 31
 
 -- the words that the language keeps for itself
 abbrev pub keywords : List (List ℕ × Word)
@@ -86,7 +83,7 @@ look_up (entry ∷ table) bytes = if bytes_eq bytes entry.0 then Some entry.1 el
 -- a name that isn't kept is a name where it isn't too long
 abbrev pub name_word : Option Word → List ℕ → Option Word
 name_word (Some word) bytes = Some word
-name_word None bytes = if nat_le (length bytes) most_name_bytes then Some (words.Name bytes) else None
+name_word None bytes = if nat_le (length bytes) name_limit then Some (words.Name bytes) else None
 
 -- what a token says, if it isn't too long or too large
 abbrev pub word_of : TokenKind → List ℕ → Option Word

@@ -1,8 +1,9 @@
 //! What the definitions of the grammar settle, whatever the code does.
 
-ghost use Rattle.array_syntax.specs.Laws.{HasOneReading};
+ghost use Rattle.array_syntax.specs.Laws.{HasOneReading, HasOneProgram};
 
-/// The tokens of a text are one program at most.
+/// Tokens are one list of statements at most, and a text denotes one program at most.
 pub fn one_reading()
-    ensures { HasOneReading }
+    ensures tokens { HasOneReading }
+    ensures texts { HasOneProgram }
 {}

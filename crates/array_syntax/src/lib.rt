@@ -28,8 +28,6 @@ mod operators;
 mod parsing;
 mod printing;
 mod program;
-#[cfg(test)]
-mod tests;
 mod tokens;
 mod word;
 mod words;

@@ -3,27 +3,13 @@
 ghost use Rattle.std.specs.Prelude.{◌≡◌, ◌++◌, ◌↔◌, IsTrue, IfOk, OnOk};
 ghost use Rattle.std.specs.Fmt.{signed_decimal};
 ghost use Rattle.array_syntax.specs.Limits.{IsWritable, KeepsStatement, KeepsLimits};
-ghost use Rattle.array_syntax.specs.Printed.{elem_word, row_fold_word, fold_word, opening, between, in_brackets, IsLiteral, one_text, numbers_text, two_text, select_text, call_text, text_of, bound_text, shape_text, input_text, line_of, lines_of, DenotesApart};
+ghost use Rattle.array_syntax.specs.Printed.{row_fold_word, fold_word, opening, between, in_brackets, IsLiteral, one_text, numbers_text, two_text, select_text, call_text, text_of, bound_text, shape_text, input_text, line_of, lines_of, DenotesApart};
 ghost use Rattle.array_syntax.specs.Tree.{tree_of};
 
 use crate::program::{Expr, ExprKind, Program, Stmt};
 use itoa::Buffer;
 use std::alloc::{AllocError, Global};
 use ven_base::{Elem, Fold, Name, Op1, Op2};
-
-/// The word of an element type.
-fn elem_word(elem: Elem) -> &'static [u8]
-    ensures { result.now ≡ elem_word elem }
-{
-    match elem {
-        Elem::U8 => b"u8",
-        Elem::I8 => b"i8",
-        Elem::U16 => b"u16",
-        Elem::I16 => b"i16",
-        Elem::U32 => b"u32",
-        Elem::I32 => b"i32",
-    }
-}
 
 /// The function that reduces each row.
 fn row_fold_word(fold: Fold) -> &'static [u8]
@@ -111,7 +97,7 @@ fn print_expr(text: &mut Vec<u8>, e: &Expr) -> Result<(), AllocError>
         ExprKind::Literal(n) => print_number(text, *n),
         ExprKind::One(op, a) => print_one(text, *op, a.get()),
         ExprKind::Two(op, a, b) => print_two(text, *op, a.get(), b.get()),
-        ExprKind::Cast(elem, a) => print_call(text, elem_word(*elem), a.get(), &[]),
+        ExprKind::Cast(elem, a) => print_call(text, elem.word(), a.get(), &[]),
         ExprKind::Select(c, a, b) => print_select(text, c.get(), a.get(), b.get()),
         ExprKind::Shift {
             of,
@@ -258,7 +244,7 @@ fn print_input(
 {
     text.extend_from_slice(name.bytes())?;
     text.extend_from_slice(b" ")?;
-    text.extend_from_slice(elem_word(elem))?;
+    text.extend_from_slice(elem.word())?;
     print_shape(text, rows, cols)
 }
 

@@ -4,13 +4,13 @@ use sqlite_items::{Boxed, Items};
 use ven_base::{Elem, Fold, Name, Op1, Op2};
 
 /// What a text denotes: its statements in order (docs/LANGUAGE.md, "Grammar").
-#[derive(Debug, Drop)]
+#[derive(Drop)]
 pub struct Program {
     pub stmts: Items<Stmt>,
 }
 
 /// A statement. `at` is the place of its name, in bytes from 0.
-#[derive(Debug, Drop)]
+#[derive(Drop)]
 pub enum Stmt {
     /// `input NAME TYPE [ rows , cols ] ;` with any numbers from 0 to 4,294,967,295. `shape_at` is the place of
     /// the `[`.
@@ -38,7 +38,7 @@ pub enum Stmt {
 
 /// An expression. `at` is the place of its name, number, sign, type or function, in bytes from 0; a literal's sign is
 /// part of its number.
-#[derive(Debug, Drop)]
+#[derive(Drop)]
 #[cycle(expr)]
 pub struct Expr {
     pub at: u32,
@@ -47,7 +47,7 @@ pub struct Expr {
 
 /// What an expression does with its operands (docs/LANGUAGE.md, "Operations" and "Index maps"). Numbers are as they are
 /// written: 0 to 4,294,967,295, and with a sign in a literal, a shift and a rotation.
-#[derive(Debug, Drop)]
+#[derive(Drop)]
 #[cycle(expr)]
 pub enum ExprKind {
     /// The array that a statement names.

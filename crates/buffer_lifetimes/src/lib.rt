@@ -10,8 +10,6 @@
 mod assign;
 mod laws;
 mod step;
-#[cfg(test)]
-mod tests;
 
 pub use assign::order;
 pub use laws::{order_laws, value_laws};

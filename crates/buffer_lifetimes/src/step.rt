@@ -4,7 +4,7 @@ use smallvec::SmallVec;
 use ven_base::Elem;
 
 /// What a step reads: a leaf by its number, a number of the type that the step asks for, or what a slot holds.
-#[derive(Clone, Copy, Debug, PartialEq, Eq)]
+#[derive(Clone, Copy)]
 pub enum Operand {
     Leaf(u32),
     Literal(i64),

@@ -7,10 +7,10 @@ use circular_buffer::HeapCircularBuffer;
 use spad_store::{MainMem, Overtaking, Spad, Unit};
 use std::alloc::{AllocError, Global};
 use std::marker::{Model, PhantomData};
-use venice_isa::DmaWork;
+use venice_isa::{DmaWork, TRANSFER_PLACES};
 
-/// How many transfers the queue holds behind the first.
-const PLACES_BEHIND: u32 = 7;
+/// How many transfers the queue has places for behind the first.
+const PLACES_BEHIND: u32 = TRANSFER_PLACES - 1;
 
 /// The channel that copies from memory to cells.
 pub type ReadChannel = Channel<Reads>;
@@ -60,6 +60,7 @@ impl<D: Directed> Unit for Channel<D> {
     type Work = DmaWork;
 
     ghost use Rattle.std.specs.Prelude.{⊤};
+    ghost use Rattle.venice_isa.specs.Limits.{transfer_places};
     ghost use Rattle.venice_isa.specs.Footprint.{Reads as ReadPlaces, Writes as WrittenPlaces};
     ghost use Rattle.venice_isa.specs.Beat.{Progress as TransferProgress};
     ghost use Rattle.dma_engine.specs.Direction.{HasBytes, issue_of, channel_course};
@@ -79,7 +80,7 @@ impl<D: Directed> Unit for Channel<D> {
 
     ghost course = { λ _. channel_course D.DIRECTION };
 
-    ghost places = { 8 };
+    ghost places = { transfer_places };
 
     ghost jobs = { λ channel. channel };
 

@@ -13,7 +13,7 @@ use venice_isa::DmaWork;
 
 /// A transfer of the queue, and the byte of it that comes next: byte `column` of row `row`. A beat begins a multiple of
 /// 16 bytes into its row, so that this place alone says how many beats are done.
-#[derive(Clone, Copy, Debug)]
+#[derive(Clone, Copy)]
 pub(crate) struct Current {
     pub(crate) work: DmaWork,
     pub(crate) row: u32,

@@ -7,7 +7,7 @@ use spad_store::{MainMem, Spad};
 use venice_isa::DmaWork;
 
 /// Which way bytes go.
-#[derive(Clone, Copy, Debug, PartialEq, Eq)]
+#[derive(Clone, Copy)]
 pub enum Direction {
     /// From memory to cells, whose flags are cleared.
     IntoCells,
@@ -25,7 +25,6 @@ pub trait Directed {
 }
 
 /// The direction of reads, into cells.
-#[derive(Clone, Copy, Debug)]
 pub struct Reads;
 
 impl Directed for Reads {
@@ -37,7 +36,6 @@ impl Directed for Reads {
 }
 
 /// The direction of writes, into memory.
-#[derive(Clone, Copy, Debug)]
 pub struct Writes;
 
 impl Directed for Writes {

@@ -14,6 +14,3 @@ mod laws;
 pub use channel::{Channel, ReadChannel, WriteChannel};
 pub use direction::{Directed, Direction, Reads, Writes};
 pub use laws::beats_are_the_copy;
-
-#[cfg(test)]
-mod tests;

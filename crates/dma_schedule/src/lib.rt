@@ -19,8 +19,6 @@
 mod laws;
 mod layout;
 mod pipelining;
-#[cfg(test)]
-mod tests;
 mod tile_blocks;
 
 pub use laws::list_laws;

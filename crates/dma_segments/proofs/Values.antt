@@ -31,7 +31,7 @@ use Rattle.dma_segments.proofs.Effects.{cell_below, source_within, reads_bring}
 -- ---- bytes
 
 -- byte b of a number, the lowest first
-low_byte : (count n b : ℕ) → b < count → get_or (low_bytes count n) b 0 ≡ (n / (256 ^ b)) % 256
+pub low_byte : (count n b : ℕ) → b < count → get_or (low_bytes count n) b 0 ≡ (n / (256 ^ b)) % 256
 low_byte zero n b below = absurd (omega arith)
 low_byte (suc count) n zero below = ap (λ m. m % 256) (sym (div-one n))
 low_byte (suc count) n (suc b) below =

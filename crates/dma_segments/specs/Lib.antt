@@ -9,3 +9,4 @@ pub mod Taken
 pub mod Effect
 pub mod Laws
 pub mod Rooms
+pub mod FillWork

@@ -18,16 +18,16 @@
 #![tactic(auto)]
 
 mod commands;
+mod fill_works;
 mod laws;
 mod lines;
 mod patches;
 mod reading;
 mod runs;
 mod segments;
-#[cfg(test)]
-mod tests;
 mod writing;
 
+pub use fill_works::{fill_work, move_kind, word_of};
 pub use laws::{pass_laws, read_laws, worked_rows, write_laws};
 pub use reading::reads;
 pub use segments::{Fill, Segments};

@@ -9,8 +9,6 @@
 mod best;
 mod fault;
 mod laws;
-#[cfg(test)]
-mod tests;
 mod walk;
 
 pub use best::{Explained, explain};

@@ -22,9 +22,10 @@ use Rattle.pass_plan.specs.Tree.{TreeOver, AtLeaf, height_of, leaves_of, with_le
 use Rattle.pass_plan.specs.Normal.{is_comparison, condition_if, as_computed, with_selects, as_root, normalised}
 use Rattle.pass_plan.specs.Pass.{Pass, no_leaf}
 use Rattle.pass_plan.specs.Sound.{Split, CountUp}
+use Rattle.pass_plan.specs.Sizes.{map_count, mapped_in}
 use Rattle.expr_split.specs.Cuts.{AtOutput, AtLet, UnderMap, Inside, Place, is_reduction, is_cut, height_limit, let_asks, Draft, Own, draft_of, seen_if, under, no_tree, own_of, seen_of, statement_of, inputs_in, plan_from}
 use Rattle.expr_split.specs.Places.{input_types, plan_of, IsPassOf, ArePassesOf, IsSplitOf}
-use Rattle.expr_split.specs.Maps.{maps_of, map_count, mapped_in}
+use Rattle.expr_split.specs.Maps.{maps_of}
 use Rattle.expr_split.proofs.Programs.{stmt_nodes, times, times-rest, or-false}
 
 -- ---- trees

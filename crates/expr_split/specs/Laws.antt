@@ -6,12 +6,11 @@ use Rattle.shape_check.specs.Statement.{Statement, in_value}
 use Rattle.shape_check.specs.Checked as checked
 use Rattle.shape_check.specs.Checked.{IsCheckedProgram}
 use Rattle.shape_check.specs.Meaning.{meaning_of, FitInputs}
-use Rattle.pass_plan.specs.Tree.{nodes_of}
-use Rattle.pass_plan.specs.Pass.{Pass}
 use Rattle.pass_plan.specs.Need.{need_of, bound_of, AreSmall}
 use Rattle.pass_plan.specs.Sound.{Split, IsSound, destinations_of}
+use Rattle.pass_plan.specs.Sizes.{nodes_in, mapped_in}
 use Rattle.expr_split.specs.Places.{input_types, IsSplitOf, left_of}
-use Rattle.expr_split.specs.Maps.{maps_of, mapped_in}
+use Rattle.expr_split.specs.Maps.{maps_of}
 
 -- done in order on whole arrays, the passes leave each output's meaning
 abbrev pub KeepsMeaning : Type 0
@@ -51,7 +50,7 @@ NeedsAreSome =
 abbrev pub TreesAreFew : Type 0
 TreesAreFew =
     (program : List Statement) (split : Split) → IsCheckedProgram program → IsSplitOf program split
-    → sum_by (λ (pass : Pass). nodes_of pass.tree) split.passes ≤ 4 * sum_by (in_value 0 checked.nodes_of) program
+    → nodes_in split ≤ 4 * sum_by (in_value 0 checked.nodes_of) program
 
 -- the leaves that are read under a map are no more than the program's map nodes: each of these is a leaf of one tree
 -- alone, since a name that isn't cut is put in its place at most once
@@ -63,7 +62,7 @@ MapsAreFew =
 -- so few nodes and leaves under maps that the code of the split's passes fits an image: the first number is four times
 -- the most nodes of a program, the second the most nodes
 pub record HasFewNodes (split : Split) : Type 0 where
-  pub nodes : sum_by (λ (pass : Pass). nodes_of pass.tree) split.passes ≤ 16384
+  pub nodes : nodes_in split ≤ 16384
   pub maps : mapped_in split ≤ 4096
 
 abbrev pub SplitsHaveFewNodes : Type 0

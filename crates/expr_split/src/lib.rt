@@ -12,8 +12,6 @@ mod numbers;
 mod plan;
 mod splitting;
 mod term;
-#[cfg(test)]
-mod tests;
 
 pub use laws::{meaning_law, size_laws, split_laws};
 pub use splitting::split;

@@ -3,7 +3,7 @@ use Rattle.std.proofs.Common.{◌≡◌, ℕ, zero, suc, ◌+◌, ◌-◌, ◌/�
 use Rattle.std.specs.Prelude.{◌==◌, nat_le}
 use Rattle.std.proofs.lemmas.Bool.Decides.{nat_tests}
 use Rattle.host_programs.specs.Program.{Program, Idle, Both}
-use Rattle.split_programs.specs.Sequence.{at_most_one, between}
+use Rattle.host_codegen.specs.Sequence.{at_most_one, between}
 
 module _ (first count : ℕ) (each : ℕ → Program) where
   pub between_few : (levels : ℕ) → count ≤ 1 → between levels first count each ≡ at_most_one first count each

@@ -20,8 +20,8 @@ use Rattle.vector_codegen.proofs.TileCode.{fitting, steps_fit, steps_wide}
 use Rattle.dma_schedule.specs.Plan.{IsReady}
 use Rattle.dma_schedule.proofs.Ready.{some_sides, rooms_few, two_results, tiles_there, number_is, somewhere}
 use Rattle.host_codegen.specs.declared.geometry.Layout.{Layout}
-use Rattle.split_programs.specs.Geometry as geometry
-use Rattle.split_programs.specs.Geometry.{layout_of}
+use Rattle.host_codegen.specs.Geometry as geometry
+use Rattle.host_codegen.specs.Geometry.{layout_of}
 use Rattle.host_codegen.specs.Shown.{layout_at}
 use Rattle.host_codegen.specs.Fit.{IsFitting, IsArgAt, IsStepAt}
 

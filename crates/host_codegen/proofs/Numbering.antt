@@ -7,10 +7,10 @@ use Rattle.pass_plan.specs.Tile.{tile_of}
 use Rattle.buffer_lifetimes.specs.Step.{Step}
 use Rattle.host_programs.specs.Expr.{Number}
 use Rattle.host_programs.specs.Program.{Idle}
-use Rattle.split_programs.specs.Geometry.{Layout, slot_cell}
-use Rattle.split_programs.specs.RootProgram.{flat_program, root_program, steps_programs}
-use Rattle.split_programs.specs.PassProgram.{pass_program}
-use Rattle.split_programs.specs.SplitProgram.{passes_programs}
+use Rattle.host_codegen.specs.Geometry.{Layout, slot_cell}
+use Rattle.host_codegen.specs.RootProgram.{flat_program, root_program, steps_programs}
+use Rattle.host_codegen.specs.PassProgram.{pass_program}
+use Rattle.host_codegen.specs.SplitProgram.{passes_programs}
 
 -- ---- mapped lists
 

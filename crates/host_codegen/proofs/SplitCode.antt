@@ -9,11 +9,11 @@ use Rattle.host_programs.specs.ProgramCode.{block_of, steps_of}
 use Rattle.host_programs.specs.ProgramLaws.{no_registers}
 use Rattle.host_programs.specs.Coded.{IsCodable, listing_of, ProgramsAreCode}
 use Rattle.host_programs.proofs.Blocks.{instrs_length}
-use Rattle.split_programs.specs.SplitProgram.{split_program}
-use Rattle.split_programs.specs.CodeRoom.{code_room}
-use Rattle.split_programs.specs.CodeLaws.{ProgramsIssueTheirLists, ProgramsAreClosed, ProgramsTakeFew}
-use Rattle.split_programs.specs.CostLaws.{CodeFitsItsRoom, StepsAreBounded}
-use Rattle.split_programs.specs.SplitFits.{ProgramsFit}
+use Rattle.host_codegen.specs.SplitProgram.{split_program}
+use Rattle.host_codegen.specs.CodeRoom.{code_room}
+use Rattle.host_codegen.specs.CodeLaws.{ProgramsIssueTheirLists, ProgramsAreClosed, ProgramsTakeFew}
+use Rattle.host_codegen.specs.CostLaws.{CodeFitsItsRoom, StepsAreBounded}
+use Rattle.host_codegen.specs.SplitFits.{ProgramsFit}
 use Rattle.host_codegen.specs.CodeOf.{IsCodeOf}
 
 -- what is known of splits' programs

@@ -11,8 +11,8 @@ use Rattle.vector_codegen.specs.Kind.{conditional_kind}
 use Rattle.vector_codegen.specs.Fit.{arity_of}
 use Rattle.host_programs.specs.Expr.{Expr}
 use Rattle.host_programs.specs.Program.{VectorOrder}
-use Rattle.split_programs.specs.Geometry.{Layout}
-use Rattle.split_programs.specs.StepProgram.{RowsExpr, SourceExpr, is_scalar, order_with, op_order, source_expr}
+use Rattle.host_codegen.specs.Geometry.{Layout}
+use Rattle.host_codegen.specs.StepProgram.{RowsExpr, SourceExpr, is_scalar, order_with, op_order, source_expr}
 
 -- the type of the operand says nothing but in a cast
 pub same_on_one : (op : Op1) (shape : RowsExpr) (acc : Bool) (elem from : Elem) (a : SourceExpr) (to : Expr) → op_order shape acc (tree_op.One op) elem elem (a ∷ []) to ≡ op_order shape acc (tree_op.One op) elem from (a ∷ []) to

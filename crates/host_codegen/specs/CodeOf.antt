@@ -7,7 +7,13 @@ use Rattle.venice_isa.specs.Beat.{beats_of_all}
 use Rattle.pass_plan.specs.Need.{bound_of}
 use Rattle.pass_plan.specs.Sound.{Split}
 use Rattle.dma_schedule.specs.PipeList.{pipe_list}
-use Rattle.split_programs.specs.CodeRoom.{code_room}
+use Rattle.host_programs.specs.Coded.{listing_of}
+use Rattle.host_codegen.specs.CodeRoom.{code_room}
+use Rattle.host_codegen.specs.SplitProgram.{split_program}
+
+-- the instructions of the split's program, and a halt behind them
+abbrev pub code_for : Split → (spad : ℕ) → Listing
+code_for split spad = listing_of (split_program split spad)
 
 -- it is code of version 2, of few instructions, whose issue list is the split's pipelined list. It takes so few steps
 -- that with its halt's and all beats of the list they are within the bound of the passes, for any number of lanes

@@ -9,7 +9,7 @@ use Rattle.pass_plan.specs.Shown.{pass_of}
 use Rattle.dma_schedule.specs.Plan.{IsReady}
 use Rattle.host_codegen.specs.declared.geometry.Layout.{Layout}
 use Rattle.host_codegen.specs.declared.tiled.TiledPass.{TiledPass}
-use Rattle.split_programs.specs.Geometry.{layout_of}
+use Rattle.host_codegen.specs.Geometry.{layout_of}
 use Rattle.host_codegen.specs.Shown.{layout_at}
 
 -- all buffers begin below 2 to the 32

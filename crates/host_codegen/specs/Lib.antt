@@ -1,3 +1,15 @@
+pub mod Sequence
+pub mod Geometry
+pub mod StepProgram
+pub mod RootProgram
+pub mod TileProgram
+pub mod PassProgram
+pub mod SplitProgram
+pub mod CodeLaws
+pub mod Examples
+pub mod SplitFits
+pub mod CodeRoom
+pub mod CostLaws
+pub mod CodeOf
 pub mod Shown
 pub mod Fit
-pub mod CodeOf

@@ -5,9 +5,10 @@ ghost use Rattle.pass_plan.specs.Buffers as plan;
 ghost use Rattle.pass_plan.specs.Shown.{pass_of, tree_of};
 ghost use Rattle.dma_schedule.specs.Plan.{IsReady};
 ghost use Rattle.host_programs.specs.Expr as plain;
+ghost use Rattle.host_programs.specs.Program as list;
 ghost use Rattle.host_programs.specs.Shown.{expr_of, program_of};
 ghost use Rattle.transfer_builder.specs.Shown.{small_of, piece_of};
-ghost use Rattle.split_programs.specs.Geometry as spec;
+ghost use Rattle.host_codegen.specs.Geometry as spec;
 ghost use Rattle.host_codegen.specs.Shown.{layout_at};
 ghost use Rattle.host_codegen.specs.Fit.{IsFitting};
 
@@ -176,6 +177,37 @@ fn columns_expr(alloc: Global, layout: Layout, first: u8) -> Result<Expr, AllocE
     lesser(alloc, Expr::Number(layout.tile.w), left)
 }
 
+/// The program with names for a tile's half and for how far the half's cells lie behind those of half 0: the tile's
+/// number is in a register, and `d` will have its half.
+fn with_half(
+    alloc: Global,
+    layout: Layout,
+    number: u8,
+    d: u8,
+    p: Program,
+) -> Result<Program, AllocError>
+    ensures { IfOk result (λ r. program_of r ≡ list.Let (plain.Remainder (plain.Variable number) (plain.Number 2))
+        (list.Let (plain.Product (plain.Variable d) (plain.Number layout.bytes)) (program_of p))) }
+{
+    let way = Expr::product(alloc, Expr::Variable(d), Expr::Number(layout.bytes))?;
+    let named = Program::with(alloc, way, p)?;
+    let half = Expr::remainder(alloc, Expr::Variable(number), Expr::Number(2))?;
+    Program::with(alloc, half, named)
+}
+
+/// The program with names for how many rows and columns a tile has, whose first row and column are in registers `d` and
+/// `d + 1`.
+fn with_size(alloc: Global, layout: Layout, d: u8, p: Program) -> Result<Program, AllocError>
+    requires low { d + 1 ≤ 255 }
+    ensures { IfOk result (λ r. program_of r ≡ list.Let (spec.rows_expr (layout_at layout) d)
+        (list.Let (spec.columns_expr (layout_at layout) (d + 1)) (program_of p))) }
+{
+    let columns = columns_expr(alloc, layout, d + 1)?;
+    let wide = Program::with(alloc, columns, p)?;
+    let rows = rows_expr(alloc, layout, d)?;
+    Program::with(alloc, rows, wide)
+}
+
 /// The program with names for the tile whose number is in a register: register `d` and the next three have its piece,
 /// then its half, and how far the half's cells lie behind those of half 0.
 pub fn with_tile(
@@ -188,15 +220,12 @@ pub fn with_tile(
     requires low { d + 4 ≤ 255 }
     ensures { IfOk result (λ r. program_of r ≡ spec.with_tile (layout_at layout) number d (program_of p)) }
 {
-    let way = Expr::product(alloc, Expr::Variable(d + 4), Expr::Number(layout.bytes))?;
-    let half = Expr::remainder(alloc, Expr::Variable(number), Expr::Number(2))?;
-    let named = Program::with(alloc, half, Program::with(alloc, way, p)?)?;
-    let columns = columns_expr(alloc, layout, d + 1)?;
-    let rows = rows_expr(alloc, layout, d)?;
-    let sized = Program::with(alloc, rows, Program::with(alloc, columns, named)?)?;
+    let named = with_half(alloc, layout, number, d + 4, p)?;
+    let sized = with_size(alloc, layout, d, named)?;
     let column = first_column_expr(alloc, layout, number)?;
+    let placed = Program::with(alloc, column, sized)?;
     let row = first_row_expr(alloc, layout, number)?;
-    Program::with(alloc, row, Program::with(alloc, column, sized)?)
+    Program::with(alloc, row, placed)
 }
 
 /// The piece that stands in register `d` and the next three.

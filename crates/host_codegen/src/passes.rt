@@ -5,8 +5,8 @@ ghost use Rattle.pass_plan.specs.Sound.{IsSound};
 ghost use Rattle.pass_plan.specs.Shown.{pass_of, split_of};
 ghost use Rattle.dma_schedule.specs.Plan.{IsReady};
 ghost use Rattle.host_programs.specs.Shown.{program_of};
-ghost use Rattle.split_programs.specs.PassProgram as spec;
-ghost use Rattle.split_programs.specs.SplitProgram as splits;
+ghost use Rattle.host_codegen.specs.PassProgram as spec;
+ghost use Rattle.host_codegen.specs.SplitProgram as splits;
 ghost use Rattle.host_codegen.specs.Fit.{IsTiled};
 
 use crate::geometry::layout_of;
@@ -68,7 +68,7 @@ impl Numbered for Passes<'_> {
     ghost use Rattle.pass_plan.specs.Sound.{IsSound};
     ghost use Rattle.pass_plan.specs.Shown.{split_of};
     ghost use Rattle.host_programs.specs.Program as list;
-    ghost use Rattle.split_programs.specs.SplitProgram as splits;
+    ghost use Rattle.host_codegen.specs.SplitProgram as splits;
 
     ghost ready = { λ s. IsSound (split_of s.split.now) × (need_of (split_of s.split.now).passes ≤ s.spad) };
 

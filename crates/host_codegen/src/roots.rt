@@ -5,15 +5,20 @@ ghost use Rattle.pass_plan.specs.declared.pass.PassKind.TheVariants.{Reduce};
 ghost use Rattle.buffer_lifetimes.specs.Step.{step_of, steps_of};
 ghost use Rattle.vector_codegen.specs.Root as works;
 ghost use Rattle.host_programs.specs.Expr as plain;
-ghost use Rattle.host_programs.specs.Shown.{vector_of, program_of};
+ghost use Rattle.host_programs.specs.Program as list;
+ghost use Rattle.host_programs.specs.Shown.{expr_of, vector_of, program_of};
+ghost use Rattle.transfer_programs.specs.Axis as axes;
 ghost use Rattle.transfer_builder.specs.Shown.{small_of};
-ghost use Rattle.split_programs.specs.RootProgram as spec;
+ghost use Rattle.host_codegen.specs.RootProgram as spec;
 ghost use Rattle.host_codegen.specs.Shown.{layout_at, rows_at};
 ghost use Rattle.host_codegen.specs.Fit.{IsFitting, IsStepAt};
 
 use crate::geometry::{Layout, first_or_later};
 use crate::sequence::{Numbered, each_of};
-use crate::steps::{RowsExpr, SourceExpr, order_with, row_bytes, step_order, with_row};
+use crate::steps::{
+    RowsExpr, SmallOrder, SourceExpr, order_of, order_with, places_of, row_bytes, step_order,
+    with_row,
+};
 use buffer_lifetimes::EvalStep;
 use host_programs::{Expr, Order, Program, VectorOrder};
 use pass_plan::PassKind;
@@ -151,6 +156,15 @@ fn better_of(least: bool) -> Op2
     if least { Op2::Min } else { Op2::Max }
 }
 
+/// The first cell of a row's last elements, as many as register 19 says, of a buffer that begins at this cell.
+fn high_cell(alloc: Global, elem: Elem, cell: u32) -> Result<Expr, AllocError>
+    ensures { IfOk result (λ e. expr_of e ≡ plain.Offset (axes.scaled
+        (plain.Difference (plain.Variable 18) (plain.Variable 19)) (size_of elem)) cell) }
+{
+    let high = Expr::difference(alloc, Expr::Variable(LEFT), Expr::Variable(LOW))?;
+    Expr::offset(alloc, scaled(alloc, high, elem.size())?, cell)
+}
+
 /// The first elements of each row, as many as register 19 says, meet the last ones.
 fn halving_order(
     alloc: Global,
@@ -166,19 +180,19 @@ fn halving_order(
 {
     let kind = two_kind(better_of(least), elem, false, false, false);
     let cell = layout.slot_cell(slot);
-    let high = Expr::difference(alloc, Expr::Variable(LEFT), Expr::Variable(LOW))?;
-    let way = scaled(alloc, high, elem.size())?;
     let row = row_bytes(ALL_ROWS, elem);
+    let steps = places_of(alloc, row, row, row)?;
+    let b = high_cell(alloc, elem, cell)?;
     Ok(VectorOrder {
         kind,
         vl: Expr::Variable(LOW),
         rows: Expr::Variable(ROWS),
         dst: Expr::Number(cell),
         a: Expr::Number(cell),
-        b: Expr::offset(alloc, way, cell)?,
-        dst_step: row.expr(alloc)?,
-        a_step: row.expr(alloc)?,
-        b_step: row.expr(alloc)?,
+        b,
+        dst_step: steps.dst,
+        a_step: steps.a,
+        b_step: steps.b,
     })
 }
 
@@ -188,6 +202,37 @@ fn halving_turns(n: u32) -> u32
     ensures { result ≡ spec.halving_turns n }
 {
     32 - (n - 1).leading_zeros()
+}
+
+/// A turn: where more than `left` elements are left, the first ones meet the last ones.
+fn halving_turn(
+    alloc: Global,
+    layout: Layout,
+    least: bool,
+    elem: Elem,
+    slot: u32,
+    left: u32,
+) -> Result<Program, AllocError>
+    requires fits { IsFitting layout }
+    requires within { slot < layout.slots }
+    requires few { left ≤ 2 }
+    ensures { IfOk result (λ p. program_of p ≡ list.UnlessLess (plain.Variable 18) (plain.Number (left + 1))
+        (list.Let (plain.Quotient (plain.Variable 18) (plain.Number 2)) (spec.emit (spec.halving_order
+        (layout_at layout) least elem slot (plain.Difference (plain.Variable 18) (plain.Variable 19)))))) }
+{
+    let halving = emit(halving_order(alloc, layout, least, elem, slot)?);
+    let low = Expr::quotient(alloc, Expr::Variable(LEFT), Expr::Number(2))?;
+    let named = Program::with(alloc, low, halving)?;
+    Program::unless_less(alloc, Expr::Variable(LEFT), Expr::Number(left + 1), named)
+}
+
+/// How many elements are left after a turn.
+fn next_left(alloc: Global) -> Result<Expr, AllocError>
+    ensures { IfOk result (λ e. expr_of e
+        ≡ plain.Difference (plain.Variable 18) (plain.Quotient (plain.Variable 18) (plain.Number 2))) }
+{
+    let half = Expr::quotient(alloc, Expr::Variable(LEFT), Expr::Number(2))?;
+    Expr::difference(alloc, Expr::Variable(LEFT), half)
 }
 
 /// Rows are halved until at most `left` elements are left, 1 or 2.
@@ -204,12 +249,8 @@ fn halvings_program(
     requires few { left ≤ 2 }
     ensures { IfOk result (λ p. program_of p ≡ spec.halvings_program (layout_at layout) least elem slot left) }
 {
-    let halving = emit(halving_order(alloc, layout, least, elem, slot)?);
-    let low = Expr::quotient(alloc, Expr::Variable(LEFT), Expr::Number(2))?;
-    let named = Program::with(alloc, low, halving)?;
-    let turn = Program::unless_less(alloc, Expr::Variable(LEFT), Expr::Number(left + 1), named)?;
-    let half = Expr::quotient(alloc, Expr::Variable(LEFT), Expr::Number(2))?;
-    let next = Expr::difference(alloc, Expr::Variable(LEFT), half)?;
+    let turn = halving_turn(alloc, layout, least, elem, slot, left)?;
+    let next = next_left(alloc)?;
     let turns = Expr::Number(halving_turns(layout.tile.w));
     Program::carrying(alloc, turns, Expr::Variable(COLUMNS), next, turn)
 }
@@ -236,17 +277,18 @@ fn last_order(
     } else {
         (OUTPUT, SmallExpr::Number(elem.size()))
     };
-    Ok(VectorOrder {
+    let small = SmallOrder {
         kind,
-        vl: Expr::Number(1),
-        rows: Expr::Variable(ROWS),
-        dst: OUTPUT.expr(alloc)?,
-        a: a.expr(alloc)?,
-        b: Expr::Number(cell),
-        dst_step: Expr::Number(elem.size()),
-        a_step: a_step.expr(alloc)?,
-        b_step: row.expr(alloc)?,
-    })
+        vl: SmallExpr::Number(1),
+        rows: ALL_ROWS.rows,
+        dst: OUTPUT,
+        a,
+        b: SmallExpr::Number(cell),
+        dst_step: SmallExpr::Number(elem.size()),
+        a_step,
+        b_step: row,
+    };
+    order_of(alloc, small)
 }
 
 /// The rows' values in a slot are halved: to two in a row's first tile, else to one.
@@ -357,7 +399,7 @@ impl Numbered for Steps<'_> {
     ghost use Rattle.std.specs.Prelude.{length, get_or, All};
     ghost use Rattle.buffer_lifetimes.specs.Step.{step_of, steps_of};
     ghost use Rattle.host_programs.specs.Program as list;
-    ghost use Rattle.split_programs.specs.RootProgram as spec;
+    ghost use Rattle.host_codegen.specs.RootProgram as spec;
     ghost use Rattle.host_codegen.specs.Shown.{layout_at};
     ghost use Rattle.host_codegen.specs.Fit.{IsFitting, IsStepAt};
 

@@ -1,8 +1,8 @@
 //! Programs by number, one after another (`specs/Sequence`).
 ghost use Rattle.std.specs.Prelude.{◌≡◌, ◌+◌, ◌^◌, ◌<◌, ◌≤◌, IfOk};
 ghost use Rattle.host_programs.specs.Shown.{program_of};
-ghost use Rattle.split_programs.specs.Sequence.{between};
-ghost use Rattle.split_programs.specs.Sequence as spec;
+ghost use Rattle.host_codegen.specs.Sequence.{between};
+ghost use Rattle.host_codegen.specs.Sequence as spec;
 
 use host_programs::Program;
 use std::alloc::{AllocError, Global};

@@ -8,8 +8,8 @@ ghost use Rattle.vector_codegen.specs.Work as works;
 ghost use Rattle.host_programs.specs.Expr as plain;
 ghost use Rattle.host_programs.specs.Shown.{expr_of, vector_of, program_of};
 ghost use Rattle.transfer_builder.specs.Shown.{small_of};
-ghost use Rattle.split_programs.specs.StepProgram as spec;
-ghost use Rattle.host_codegen.specs.Shown.{layout_at, rows_at, source_at};
+ghost use Rattle.host_codegen.specs.StepProgram as spec;
+ghost use Rattle.host_codegen.specs.Shown.{layout_at, rows_at, source_at, order_at};
 ghost use Rattle.host_codegen.specs.Fit.{IsFitting, IsArgAt, IsStepAt};
 
 use crate::geometry::Layout;
@@ -78,7 +78,7 @@ pub fn row_bytes(shape: RowsExpr, elem: Elem) -> SmallExpr
 impl SourceExpr {
     ghost use Rattle.std.specs.Prelude.{◌≡◌};
     ghost use Rattle.transfer_builder.specs.Shown.{small_of};
-    ghost use Rattle.split_programs.specs.StepProgram as spec;
+    ghost use Rattle.host_codegen.specs.StepProgram as spec;
     ghost use Rattle.host_codegen.specs.Shown.{source_at};
 
     /// Whether the values are one number.
@@ -112,6 +112,66 @@ fn result_step(shape: RowsExpr, kind: VecKind) -> SmallExpr
     }
 }
 
+/// An instruction of which each number takes one register at most.
+#[derive(Clone, Copy)]
+pub struct SmallOrder {
+    pub kind: VecKind,
+    pub vl: SmallExpr,
+    pub rows: SmallExpr,
+    pub dst: SmallExpr,
+    pub a: SmallExpr,
+    pub b: SmallExpr,
+    pub dst_step: SmallExpr,
+    pub a_step: SmallExpr,
+    pub b_step: SmallExpr,
+}
+
+/// A number for the results, one for A and one for B: their first cells, or how far their rows stand apart.
+#[derive(Drop)]
+pub struct Places {
+    pub dst: Expr,
+    pub a: Expr,
+    pub b: Expr,
+}
+
+/// These three.
+pub fn places_of(
+    alloc: Global,
+    dst: SmallExpr,
+    a: SmallExpr,
+    b: SmallExpr,
+) -> Result<Places, AllocError>
+    ensures dst { IfOk result (λ r. expr_of r.dst ≡ small_of dst) }
+    ensures a { IfOk result (λ r. expr_of r.a ≡ small_of a) }
+    ensures b { IfOk result (λ r. expr_of r.b ≡ small_of b) }
+{
+    let dst = dst.expr(alloc)?;
+    let a = a.expr(alloc)?;
+    let b = b.expr(alloc)?;
+    Ok(Places { dst, a, b })
+}
+
+/// The instruction by expressions.
+pub fn order_of(alloc: Global, small: SmallOrder) -> Result<VectorOrder, AllocError>
+    ensures { IfOk result (λ o. vector_of o ≡ order_at small) }
+{
+    let cells = places_of(alloc, small.dst, small.a, small.b)?;
+    let steps = places_of(alloc, small.dst_step, small.a_step, small.b_step)?;
+    let vl = small.vl.expr(alloc)?;
+    let rows = small.rows.expr(alloc)?;
+    Ok(VectorOrder {
+        kind: small.kind,
+        vl,
+        rows,
+        dst: cells.dst,
+        a: cells.a,
+        b: cells.b,
+        dst_step: steps.dst,
+        a_step: steps.a,
+        b_step: steps.b,
+    })
+}
+
 /// An instruction over all elements of the rows.
 pub fn order_with(
     alloc: Global,
@@ -125,17 +185,18 @@ pub fn order_with(
     ensures { IfOk result (λ o. vector_of o
         ≡ spec.order_with (rows_at shape) kind (small_of to) (source_at a) (source_at b)) }
 {
-    Ok(VectorOrder {
+    let small = SmallOrder {
         kind,
-        vl: Expr::Variable(shape.cols),
-        rows: shape.rows.expr(alloc)?,
-        dst: to.expr(alloc)?,
-        a: a.parameter().expr(alloc)?,
-        b: b.parameter().expr(alloc)?,
-        dst_step: result_step(shape, kind).expr(alloc)?,
-        a_step: row_bytes(shape, kind.from).expr(alloc)?,
-        b_step: row_bytes(shape, kind.elem).expr(alloc)?,
-    })
+        vl: SmallExpr::Variable(shape.cols),
+        rows: shape.rows,
+        dst: to,
+        a: a.parameter(),
+        b: b.parameter(),
+        dst_step: result_step(shape, kind),
+        a_step: row_bytes(shape, kind.from),
+        b_step: row_bytes(shape, kind.elem),
+    };
+    order_of(alloc, small)
 }
 
 /// An operation on A and B.

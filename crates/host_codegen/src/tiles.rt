@@ -8,9 +8,9 @@ ghost use Rattle.host_programs.specs.Program as list;
 ghost use Rattle.host_programs.specs.Expr as plain;
 ghost use Rattle.host_programs.specs.Shown.{program_of};
 ghost use Rattle.transfer_builder.specs.Shown.{piece_of};
-ghost use Rattle.split_programs.specs.Geometry as geometry;
-ghost use Rattle.split_programs.specs.RootProgram as roots;
-ghost use Rattle.split_programs.specs.TileProgram as spec;
+ghost use Rattle.host_codegen.specs.Geometry as geometry;
+ghost use Rattle.host_codegen.specs.RootProgram as roots;
+ghost use Rattle.host_codegen.specs.TileProgram as spec;
 ghost use Rattle.host_codegen.specs.Fit.{IsTiled};
 
 use crate::geometry::{if_last, output_expr, output_half_expr, piece_at, with_tile};
@@ -36,7 +36,7 @@ struct Reads<'a> {
 impl Numbered for Reads<'_> {
     ghost use Rattle.std.specs.Prelude.{length};
     ghost use Rattle.pass_plan.specs.Shown.{pass_of};
-    ghost use Rattle.split_programs.specs.TileProgram as spec;
+    ghost use Rattle.host_codegen.specs.TileProgram as spec;
     ghost use Rattle.host_codegen.specs.Fit.{IsTiled};
 
     ghost ready = { λ s. IsTiled s.tiled.now };
@@ -80,7 +80,7 @@ struct Fills<'a> {
 impl Numbered for Fills<'_> {
     ghost use Rattle.std.specs.Prelude.{length};
     ghost use Rattle.pass_plan.specs.Shown.{pass_of};
-    ghost use Rattle.split_programs.specs.TileProgram as spec;
+    ghost use Rattle.host_codegen.specs.TileProgram as spec;
     ghost use Rattle.host_codegen.specs.Fit.{IsTiled};
 
     ghost ready = { λ s. IsTiled s.tiled.now };
@@ -176,17 +176,26 @@ fn results_program(alloc: Global, tiled: &TiledPass<'_>) -> Result<Program, Allo
     Program::both(alloc, works, done)
 }
 
+/// The tile's fills, and then what is issued when its output half has its place.
+fn computed_program(alloc: Global, tiled: &TiledPass<'_>) -> Result<Program, AllocError>
+    requires { IsTiled tiled.now }
+    ensures { IfOk result (λ p. program_of p ≡ spec.computed_program tiled.now.arrays.now
+        (pass_of tiled.now.pass.now) tiled.now.layout.tile) }
+{
+    let results = results_program(alloc, tiled)?;
+    let place = output_expr(alloc, tiled.layout, 9)?;
+    let placed = Program::with(alloc, place, results)?;
+    let fills = each_of(alloc, &Fills { tiled }, tiled.layout.leaves)?;
+    Program::both(alloc, fills, placed)
+}
+
 /// A tile waits for its own reads, and for the writes from its output half.
 fn waiting_program(alloc: Global, tiled: &TiledPass<'_>) -> Result<Program, AllocError>
     requires { IsTiled tiled.now }
     ensures { IfOk result (λ p. program_of p
         ≡ spec.waiting_program tiled.now.arrays.now (pass_of tiled.now.pass.now) tiled.now.layout.tile) }
 {
-    let results = results_program(alloc, tiled)?;
-    let place = output_expr(alloc, tiled.layout, 9)?;
-    let placed = Program::with(alloc, place, results)?;
-    let fills = each_of(alloc, &Fills { tiled }, tiled.layout.leaves)?;
-    let computed = Program::both(alloc, fills, placed)?;
+    let computed = computed_program(alloc, tiled)?;
     let tag = Expr::offset(alloc, Expr::Variable(9), 2)?;
     let written = Program::Emit(Order::AwaitTag(tag));
     let read = Program::Emit(Order::AwaitTag(Expr::Variable(7)));

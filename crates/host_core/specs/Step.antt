@@ -9,7 +9,7 @@ use Rattle.venice_isa.specs.Host.{Host, deed, next}
 use Rattle.host_core.specs.declared.waiting.Waiting.{Waiting}
 use Rattle.host_core.specs.declared.step.Step.{Step}
 use Rattle.host_core.specs.declared.step.Step.TheVariants.{Issued, Moved, Waits, Halted}
-use Rattle.host_core.specs.Pass.{may_go_on}
+use Rattle.host_core.specs.Pass.{lets_go_on}
 
 -- a work is issued; a wait that is passed concerns the host alone
 abbrev pub issued : Issue → Step
@@ -26,11 +26,11 @@ step_made (Passes issue) = issued issue
 
 -- the step, where so many works are unfinished
 abbrev pub step_of : Waiting → Deed → Step
-step_of waiting deed = if may_go_on waiting deed then step_made deed else Waits
+step_of waiting deed = if lets_go_on waiting deed then step_made deed else Waits
 
 -- the host after it, which is the same where it waits, and at the end of the run
 abbrev pub host_after : Waiting → List Instr → Host → Host
-host_after waiting instrs host = if may_go_on waiting (deed instrs host) then next instrs host else host
+host_after waiting instrs host = if lets_go_on waiting (deed instrs host) then next instrs host else host
 
 -- the tag that is waited for
 abbrev pub wanted_of : Issue → Option ℕ

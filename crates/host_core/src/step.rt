@@ -5,7 +5,7 @@ ghost use Rattle.host_core.specs.Step.{step_made, issued};
 use venice_isa::{Deed, Issue};
 
 /// What a step of the host is to the rest of the machine (docs/MACHINE.md, "The host").
-#[derive(Clone, Copy, Debug, PartialEq, Eq)]
+#[derive(Clone, Copy)]
 pub enum Step {
     /// It issues this work, which its queue has a place for.
     Issued(Issue),

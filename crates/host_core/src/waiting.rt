@@ -1,12 +1,12 @@
 //! What the host waits for.
 ghost use Rattle.std.specs.Prelude.{◌≡◌};
-ghost use Rattle.host_core.specs.Pass.{may_go_on, may_pass, is_idle};
+ghost use Rattle.host_core.specs.Pass.{lets_go_on, may_pass, is_idle};
 
-use venice_isa::{Deed, Issue};
+use venice_isa::{Deed, Issue, TRANSFER_PLACES, VECTOR_PLACES};
 
 /// The numbers of unfinished works: vector instructions, reads, writes, and those transfers of both channels that have
 /// the tag which a `twait` at the host's place names, where one stands there (`Host::wanted`), and else 0.
-#[derive(Clone, Copy, Debug, PartialEq, Eq)]
+#[derive(Clone, Copy)]
 pub struct Waiting {
     pub vector: u32,
     pub read: u32,
@@ -15,15 +15,9 @@ pub struct Waiting {
 }
 
 impl Waiting {
-    /// How many vector instructions the lanes' queue holds.
-    pub(crate) const VECTOR_PLACES: u32 = 4;
-
-    /// How many transfers a channel's queue holds.
-    pub(crate) const TRANSFER_PLACES: u32 = 8;
-
     /// Whether an instruction that is this to the rest of the machine may be done now (docs/MACHINE.md, "The host").
     pub fn lets_go_on(&self, deed: &Deed) -> bool
-        ensures { result ≡ may_go_on self.now deed.now }
+        ensures { result ≡ lets_go_on self.now deed.now }
     {
         match deed {
             Deed::Halts => self.is_idle(),
@@ -44,9 +38,9 @@ impl Waiting {
         ensures { result ≡ may_pass self.now issue.now }
     {
         match issue {
-            Issue::Vector(_) => self.vector < Self::VECTOR_PLACES,
-            Issue::Read(_) => self.read < Self::TRANSFER_PLACES,
-            Issue::Write(_) => self.write < Self::TRANSFER_PLACES,
+            Issue::Vector(_) => self.vector < VECTOR_PLACES,
+            Issue::Read(_) => self.read < TRANSFER_PLACES,
+            Issue::Write(_) => self.write < TRANSFER_PLACES,
             Issue::RWait(most) => self.read <= *most,
             Issue::WWait(most) => self.write <= *most,
             Issue::VWait => self.vector == 0,

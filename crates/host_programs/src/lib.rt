@@ -24,8 +24,6 @@ mod expr;
 mod laws;
 mod program;
 mod size;
-#[cfg(test)]
-mod tests;
 
 pub use coded::code_of;
 pub use expr::Expr;

@@ -132,7 +132,7 @@ written image s0 s1 s2 s3 version header arrays code none version_is header_is a
 
 -- ---- what is spelled is read again
 
-lies_in : (least most n : ℕ) → (¬ ¬ LiesIn least most n) → LiesIn least most n
+pub lies_in : (least most n : ℕ) → (¬ ¬ LiesIn least most n) → LiesIn least most n
 lies_in least most n there = record {
   from = elim (cases_lt n least) [ inl lt ↦ absurd (there (λ lies. absurd (omega (arith, lies.from)))) | inr ge ↦ ge ];
   to = elim (cases_lt most n) [ inl lt ↦ absurd (there (λ lies. absurd (omega (arith, lies.to)))) | inr ge ↦ ge ];

@@ -15,10 +15,6 @@ use Rattle.image_loader.specs.Image.{magic, raw_entries}
 use Rattle.image_loader.specs.Reading.{number_at, eight_at, version_in, header_in, entry_at, entries_in, code_place}
 use Rattle.image_loader.specs.Faults.{Defect, IsDefect, defect_place, Spells}
 
--- the most bytes that are read
-abbrev pub byte_limit : ℕ
-byte_limit = 67108864
-
 -- the bytes are whole up to a place, and no defect stands before it
 pub record IsReadTo (bytes : List ℕ) (place : ℕ) : Type 0 where
   pub within : place ≤ length bytes

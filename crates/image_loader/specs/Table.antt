@@ -8,24 +8,22 @@ use Rattle.ven_base.specs.declared.elem.Elem.{Elem}
 use Rattle.ven_base.specs.declared.elem.Elem.TheVariants.{U8}
 use Rattle.ven_base.specs.Elem.{size_of}
 use Rattle.ven_base.specs.Extent.{element_limit}
+use Rattle.ven_base.specs.Limits.{cell_limit, memory_limit}
 use Rattle.ven_base.specs.Name.{IsName}
+use Rattle.venice_isa.specs.Limits.{instruction_limit}
 use Rattle.venice_isa.specs.Form.{element_types}
 use Rattle.image_loader.specs.declared.table.EntryPart.{EntryPart}
 use Rattle.image_loader.specs.declared.table.EntryPart.TheVariants.{NameLength, NameBytes, Kind, ElementType, Rows, Columns, Place}
 
 -- ---- limits
 
-abbrev pub spad_limit : ℕ
-spad_limit = 1048576
-
-abbrev pub memory_limit : ℕ
-memory_limit = 134217728
-
+-- the most arrays of an image
 abbrev pub array_limit : ℕ
 array_limit = 256
 
-abbrev pub instr_limit : ℕ
-instr_limit = 8000000
+-- the most bytes of a file that is read; no image has more
+abbrev pub file_limit : ℕ
+file_limit = 67108864
 
 -- ---- what stands in the bytes
 
@@ -134,10 +132,10 @@ least_of Spad = 1
 least_of part = 0
 
 abbrev pub most_of : HeaderPart → ℕ
-most_of Spad = spad_limit
+most_of Spad = cell_limit
 most_of Memory = memory_limit
 most_of Arrays = array_limit
-most_of Instrs = instr_limit
+most_of Instrs = instruction_limit
 
 abbrev pub header_number : Header → HeaderPart → ℕ
 header_number header Spad = header.spad

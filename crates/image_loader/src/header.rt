@@ -1,7 +1,7 @@
 //! The header of an image.
 
 /// The numbers of the header: the bytes of scratchpad and memory, and how many arrays and instructions there are.
-#[derive(Clone, Copy, Debug)]
+#[derive(Clone, Copy)]
 pub(crate) struct HeaderFields {
     pub spad: u32,
     pub memory: u32,

@@ -7,7 +7,7 @@ use venice_isa::Code;
 /// A program for the machine (docs/FORMATS.md, "Images"): how many bytes of scratchpad and of memory it wants, the
 /// arrays that stand in memory, and its code. The numbers keep the limits of an image; the arrays have different names,
 /// lie in memory and share no byte.
-#[derive(Debug, Drop)]
+#[derive(Drop)]
 pub struct Image {
     pub spad: u32,
     pub memory: u32,

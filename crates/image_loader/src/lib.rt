@@ -27,11 +27,6 @@ mod writing;
 
 pub use fault::ImageFault;
 pub use image::Image;
-pub use reading::{BYTE_LIMIT, read_image};
-pub use table::{
-    ARRAY_LIMIT, EntryFields, EntryPart, INSTR_LIMIT, MEMORY_LIMIT, SPAD_LIMIT, check_entry,
-};
+pub use reading::read_image;
+pub use table::{ARRAY_LIMIT, EntryFields, EntryPart, FILE_LIMIT, check_entry};
 pub use writing::write_image;
-
-#[cfg(test)]
-mod tests;

@@ -1,27 +1,22 @@
 //! Reading images (docs/FORMATS.md, "Images").
 ghost use Rattle.std.specs.Prelude.{◌≡◌, ◌+◌, ◌*◌, ◌<◌, ◌≤◌, ◌^◌, ◌↔◌, ◌++◌, ◌∷◌, [], MatchResult, IfOk, IfErr, OnOk, IsTrue, length, slice_index};
 ghost use Rattle.venice_isa.specs.Code.{EndsWithHalt, HasTargetBelow};
-ghost use Rattle.image_loader.specs.Table.{LiesIn, entry_size, offset_of, part_size};
+ghost use Rattle.image_loader.specs.Table.{LiesIn, file_limit, entry_size, offset_of, part_size};
 ghost use Rattle.image_loader.specs.Image.{raw_entry, raw_entries};
 ghost use Rattle.image_loader.specs.Reading.{number_at, version_in, header_in, entry_at, entries_in, code_place, image_end};
 ghost use Rattle.image_loader.specs.Faults.{FitsMagic, IsAnswer};
 ghost use Rattle.image_loader.specs.Loading.{IsLoading};
 ghost use Rattle.image_loader.specs.EntryFields.{raw_fields};
-ghost use Rattle.image_loader.specs.Clear.{byte_limit, numbers_of, IsReadTo, IsMagicRead, IsGoodNumber, IsBadNumber, IsHeaderRead, IsAtEntry, IsEntryRead, IsStop, IsTableRead, IsInstrRead, IsInstrStop, IsCodeRead};
+ghost use Rattle.image_loader.specs.Clear.{numbers_of, IsReadTo, IsMagicRead, IsGoodNumber, IsBadNumber, IsHeaderRead, IsAtEntry, IsEntryRead, IsStop, IsTableRead, IsInstrRead, IsInstrStop, IsCodeRead};
 ghost use Rattle.image_loader.specs.declared.fault.ImageFault.TheVariants.{Truncated, Memory};
 
 use crate::fault::ImageFault;
 use crate::header::HeaderFields;
 use crate::image::Image;
-use crate::table::{
-    ARRAY_LIMIT, EntryFields, EntryPart, INSTR_LIMIT, MEMORY_LIMIT, SPAD_LIMIT, check_entry,
-};
+use crate::table::{ARRAY_LIMIT, EntryFields, EntryPart, check_entry};
 use std::alloc::Global;
-use ven_base::Entry;
-use venice_isa::{Code, Instr, Version, decode_in};
-
-/// The most bytes that `read_image` takes.
-pub const BYTE_LIMIT: u32 = 67_108_864;
+use ven_base::{CELL_LIMIT, Entry, MEMORY_LIMIT};
+use venice_isa::{Code, INSTRUCTION_LIMIT, Instr, Version, decode_in};
 
 /// Where the first entry stands, behind the magic and the header.
 const TABLE_PLACE: u32 = 20;
@@ -30,16 +25,16 @@ const TABLE_PLACE: u32 = 20;
 const ENTRY_BYTES: u32 = 15;
 
 /// The table's arrays, and where it ends.
-#[derive(Debug, Drop)]
+#[derive(Drop)]
 struct Table {
     arrays: Vec<Entry>,
     end: u32,
 }
 
 /// The image that the bytes spell: `Ok` exactly with it, and else the first fault from left to right, or `Memory` where
-/// memory ran out. The bytes are at most 67,108,864. One pass over them.
+/// memory ran out. The bytes are at most `FILE_LIMIT`. One pass over them.
 pub fn read_image(alloc: Global, bytes: &[u8]) -> Result<Image, ImageFault>
-    requires { length bytes.now ≤ byte_limit }
+    requires { length bytes.now ≤ file_limit }
     ensures { IsLoading bytes.now result }
 {
     let version = read_magic(bytes)?;
@@ -69,7 +64,7 @@ fn keep<T: Drop>(items: &mut Vec<T>, item: T) -> Result<(), ImageFault>
 // ---- the magic and the header
 
 fn read_magic(bytes: &[u8]) -> Result<Version, ImageFault>
-    requires { length bytes.now ≤ byte_limit }
+    requires { length bytes.now ≤ file_limit }
     ensures { MatchResult result (IsMagicRead bytes.now) (IsAnswer bytes.now) }
 {
     for i in 0..4 {
@@ -95,14 +90,14 @@ fn fits_magic(i: usize, byte: u8) -> bool
 }
 
 fn read_header(bytes: &[u8]) -> Result<HeaderFields, ImageFault>
-    requires few { length bytes.now ≤ byte_limit }
+    requires few { length bytes.now ≤ file_limit }
     requires read { IsReadTo bytes.now 4 }
     ensures { MatchResult result (λ fields. IsHeaderRead bytes.now (numbers_of fields)) (IsAnswer bytes.now) }
 {
-    let spad = number_in(bytes, 4, 1, SPAD_LIMIT)?;
+    let spad = number_in(bytes, 4, 1, CELL_LIMIT)?;
     let memory = number_in(bytes, 8, 0, MEMORY_LIMIT)?;
     let array_count = number_in(bytes, 12, 0, ARRAY_LIMIT)?;
-    let instr_count = number_in(bytes, 16, 0, INSTR_LIMIT)?;
+    let instr_count = number_in(bytes, 16, 0, INSTRUCTION_LIMIT)?;
     Ok(HeaderFields {
         spad,
         memory,
@@ -113,7 +108,7 @@ fn read_header(bytes: &[u8]) -> Result<HeaderFields, ImageFault>
 
 /// The number that stands at a place, from the least to the most.
 fn number_in(bytes: &[u8], place: u32, least: u32, most: u32) -> Result<u32, ImageFault>
-    requires few { length bytes.now ≤ byte_limit }
+    requires few { length bytes.now ≤ file_limit }
     requires place { place ≤ 16 }
     ensures { MatchResult result (IsGoodNumber bytes.now place least most) (IsBadNumber bytes.now place least most) }
 {
@@ -128,7 +123,7 @@ fn number_in(bytes: &[u8], place: u32, least: u32, most: u32) -> Result<u32, Ima
 }
 
 fn truncated(bytes: &[u8]) -> ImageFault
-    requires { length bytes.now ≤ byte_limit }
+    requires { length bytes.now ≤ file_limit }
     ensures { result ≡ Truncated (length bytes.now) }
 {
     ImageFault::Truncated {
@@ -167,7 +162,7 @@ fn number_from(bytes: &[u8], place: u32) -> u32
 // ---- the entries
 
 fn read_table(alloc: Global, bytes: &[u8], header: HeaderFields) -> Result<Table, ImageFault>
-    requires few { length bytes.now ≤ byte_limit }
+    requires few { length bytes.now ≤ file_limit }
     requires read { IsHeaderRead bytes.now (numbers_of header) }
     ensures { MatchResult result (λ table. IsTableRead bytes.now table.arrays.items table.end) (IsAnswer bytes.now) }
 {
@@ -191,7 +186,7 @@ fn entry_bytes(entry: &Entry) -> u32
 
 /// The entry that stands at a place, behind these.
 fn read_entry(bytes: &[u8], place: u32, memory: u32, earlier: &[Entry]) -> Result<Entry, ImageFault>
-    requires few { length bytes.now ≤ byte_limit }
+    requires few { length bytes.now ≤ file_limit }
     requires at { IsAtEntry bytes.now place memory (raw_entries earlier.now) }
     ensures { MatchResult result
         (λ entry. IsEntryRead bytes.now place memory (raw_entries earlier.now) (raw_entry entry)) (IsAnswer bytes.now) }
@@ -228,7 +223,7 @@ fn is_name_length(length: u32) -> bool
 
 /// The fields of the entry at a place, whose name is whole; bytes that aren't there are 0.
 fn fields_at(bytes: &[u8], place: u32, name_length: u32) -> EntryFields<'_>
-    requires few { length bytes.now ≤ byte_limit }
+    requires few { length bytes.now ≤ file_limit }
     requires length { name_length ≡ slice_index bytes.now place }
     requires name { place + 1 + name_length ≤ length bytes.now }
     ensures { raw_fields result ≡ entry_at bytes.now place }
@@ -246,7 +241,7 @@ fn fields_at(bytes: &[u8], place: u32, name_length: u32) -> EntryFields<'_>
 
 /// The fault of a field that breaks its rule: it may not be whole.
 fn stop(bytes: &[u8], place: u32, size: u32) -> ImageFault
-    requires few { length bytes.now ≤ byte_limit }
+    requires few { length bytes.now ≤ file_limit }
     requires sizes { place + size < 2 ^ 32 }
     ensures { IsStop bytes.now place size result }
 {
@@ -293,7 +288,7 @@ fn read_instrs(
     place: u32,
     count: u32,
 ) -> Result<Vec<Instr>, ImageFault>
-    requires few { length bytes.now ≤ byte_limit }
+    requires few { length bytes.now ≤ file_limit }
     requires read { IsReadTo bytes.now (code_place bytes.now) }
     requires version { version ≡ version_in bytes.now }
     requires place { place ≡ code_place bytes.now }
@@ -312,7 +307,7 @@ fn read_instrs(
 
 /// The instruction that stands at a place, of so many.
 fn read_instr(bytes: &[u8], place: u32, version: Version, count: u32) -> Result<Instr, ImageFault>
-    requires few { length bytes.now ≤ byte_limit }
+    requires few { length bytes.now ≤ file_limit }
     requires room { place + 8 < 2 ^ 32 }
     ensures { MatchResult result (IsInstrRead bytes.now place version count)
         (IsInstrStop bytes.now place version count) }
@@ -354,7 +349,7 @@ fn has_target_below(instr: Instr, end: u32) -> bool
 
 /// What is left to see where all is read: that the last instruction halts, and that there are no more bytes.
 fn check_end(bytes: &[u8], end: u32, instrs: &[Instr]) -> Result<(), ImageFault>
-    requires few { length bytes.now ≤ byte_limit }
+    requires few { length bytes.now ≤ file_limit }
     requires end { end ≡ image_end bytes.now }
     requires read { IsCodeRead bytes.now instrs.now end }
     ensures done { IfOk result (λ _. length bytes.now ≡ end) }

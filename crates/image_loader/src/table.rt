@@ -11,20 +11,14 @@ ghost use Rattle.image_loader.specs.declared.table.EntryPart.TheVariants.{Kind, 
 
 use ven_base::{Elem, Entry, NAME_LIMIT, Name, Shape};
 
-/// The most bytes of scratchpad that an image may want; it wants at least one.
-pub const SPAD_LIMIT: u32 = 1_048_576;
-
-/// The most bytes of memory that an image may want.
-pub const MEMORY_LIMIT: u32 = 134_217_728;
-
 /// The most arrays of an image.
 pub const ARRAY_LIMIT: u32 = 256;
 
-/// The most instructions of an image.
-pub const INSTR_LIMIT: u32 = 8_000_000;
+/// The most bytes of a file that is read; no image has more.
+pub const FILE_LIMIT: u32 = 67_108_864;
 
 /// A part of an array's entry, in the order in which they stand.
-#[derive(Clone, Copy, Debug, PartialEq, Eq)]
+#[derive(Clone, Copy)]
 pub enum EntryPart {
     NameLength,
     NameBytes,
@@ -37,7 +31,7 @@ pub enum EntryPart {
 
 /// An array's entry as it stands in bytes, whatever its numbers are: `kind` is 0 for an input and 1 for an output,
 /// `elem` the number of an element type. `place` counts bytes of memory from 0.
-#[derive(Clone, Copy, Debug)]
+#[derive(Clone, Copy)]
 pub struct EntryFields<'a> {
     pub name: &'a [u8],
     pub kind: u8,

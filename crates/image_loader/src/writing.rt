@@ -1,6 +1,7 @@
 //! Writing images (docs/FORMATS.md, "Images").
-ghost use Rattle.std.specs.Prelude.{◌≡◌, ◌<◌, ◌^◌, ◌++◌, ◌∷◌, IfOk, OnOk, length};
+ghost use Rattle.std.specs.Prelude.{◌≡◌, ◌<◌, ◌≤◌, ◌^◌, ◌++◌, ◌∷◌, IfOk, OnOk, length};
 ghost use Rattle.venice_isa.specs.Encoding.{bit, type_number};
+ghost use Rattle.image_loader.specs.Table.{file_limit};
 ghost use Rattle.image_loader.specs.Image.{raw_entry, raw_entries, word, magic, header_bytes, entry_bytes, table_bytes, code_bytes, spelling};
 ghost use Rattle.image_loader.specs.Clear.{numbers_of};
 
@@ -14,9 +15,10 @@ use venice_isa::{Code, Version, encode};
 /// bytes.
 const TABLE_ROOM: usize = 20 + 256 * 46;
 
-/// The image's one spelling. One pass over it.
+/// The image's one spelling, which `read_image` takes: it has at most `FILE_LIMIT` bytes. One pass over the image.
 pub fn write_image(alloc: Global, image: &Image) -> Result<Vec<u8>, AllocError>
-    ensures { IfOk result (λ bytes. bytes.items ≡ spelling image.now) }
+    ensures spelled { IfOk result (λ bytes. bytes.items ≡ spelling image.now) }
+    ensures few { IfOk result (λ bytes. length bytes.items ≤ file_limit) }
 {
     let header = HeaderFields {
         spad: image.spad,

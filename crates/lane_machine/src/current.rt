@@ -15,7 +15,7 @@ use venice_isa::{VecWork, Walk};
 /// front: how many elements a whole beat takes, and the numbers of scalars. The rest goes on by
 /// sums: the operands and the destination, the row and the elements of it that are behind, the
 /// beats done and, with accumulate, the row's sum so far.
-#[derive(Clone, Copy, Debug)]
+#[derive(Clone, Copy)]
 pub(crate) struct Current {
     pub(crate) group_items: u32,
     pub(crate) a: Operand,

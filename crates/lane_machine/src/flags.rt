@@ -6,8 +6,8 @@ ghost use Rattle.venice_isa.specs.Whole.{flag_for};
 ghost use Rattle.lane_machine.specs.Elements.{element_in};
 ghost use Rattle.lane_machine.specs.Flags.{HasFlags};
 
-use crate::element::{Bytes, Element, TypeI8, TypeI16, TypeI32, TypeU8, TypeU16, TypeU32, number};
-use ven_base::Elem;
+use crate::element::{Bytes, number};
+use ven_base::{Elem, KnownElem, TypeI8, TypeI16, TypeI32, TypeU8, TypeU16, TypeU32};
 use venice_isa::{VecKind, sets_flag};
 
 /// The flags that an instruction's results set.
@@ -26,7 +26,7 @@ pub(crate) fn flags_for(kind: VecKind, results: &Bytes) -> u64
 }
 
 /// The same of results of one type.
-fn flags_of<E: Element>(kind: VecKind, results: &Bytes) -> u64
+fn flags_of<E: KnownElem>(kind: VecKind, results: &Bytes) -> u64
     ensures { HasFlags E.ELEM (16 / size_of E.ELEM) (λ k. flag_for kind (element_in E.ELEM results.now k)) result }
 {
     let elem = E::ELEM;

@@ -17,14 +17,14 @@ ghost use Rattle.lane_machine.specs.Group.{results_from};
 ghost use Rattle.lane_machine.specs.Current.{IsAt, IsPlaced, IsBounded, next_count, progress_of};
 
 use crate::current::Current;
-use crate::element::{
-    Bytes, Element, MOST_BYTES, TypeI8, TypeI16, TypeI32, TypeU8, TypeU16, TypeU32, number, put,
-};
+use crate::element::{Bytes, MOST_BYTES, number, put};
 use crate::flags::{flags_for, whole_elements};
 use crate::kernel::answers;
 use crate::operand::load_bytes;
 use spad_store::Spad;
-use ven_base::{Elem, bits_of, wrap};
+use ven_base::{
+    Elem, KnownElem, TypeI8, TypeI16, TypeI32, TypeU8, TypeU16, TypeU32, bits_of, wrap,
+};
 use venice_isa::VecWork;
 
 /// Does the next beat of a work, which takes `count` elements. Gives the row's sum with their
@@ -98,7 +98,7 @@ fn sum_of(elem: Elem, results: &Bytes, count: u32) -> i64
 }
 
 /// The same of one type.
-fn sum_in<E: Element>(results: &Bytes, count: u32) -> i64
+fn sum_in<E: KnownElem>(results: &Bytes, count: u32) -> i64
     requires { count * size_of E.ELEM ≤ 16 }
     ensures value { result ≡ sum_of_elements E.ELEM results.now count }
     ensures bounded { IsBounded count result }

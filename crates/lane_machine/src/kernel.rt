@@ -4,11 +4,8 @@ ghost use Rattle.venice_isa.specs.Answer.{answer_of};
 ghost use Rattle.venice_isa.specs.declared.op.VecOp.TheVariants.{Cast};
 ghost use Rattle.lane_machine.specs.Elements.{element_in, wider, HasSpelled};
 
-use crate::element::{
-    Bytes, Element, MOST_BYTES, TypeI8, TypeI16, TypeI32, TypeU8, TypeU16, TypeU32, number,
-    put_answer,
-};
-use ven_base::{Elem, bits_of};
+use crate::element::{Bytes, MOST_BYTES, number, put_answer};
+use ven_base::{Elem, KnownElem, TypeI8, TypeI16, TypeI32, TypeU8, TypeU16, TypeU32, bits_of};
 use venice_isa::{VecKind, VecOp, answer_of};
 
 /// Works out the answers of an instruction at as many elements as 16 bytes have, of which A and B
@@ -31,7 +28,7 @@ pub(crate) fn answers(kind: VecKind, a: &Bytes, b: &Bytes, results: &mut Bytes)
 /// The same of results of one type. It is no part of its caller, where the compiler would work out
 /// ahead what several operations have in common.
 #[inline(never)]
-fn answers_of<E: Element>(op: VecOp, from: Elem, a: &Bytes, b: &Bytes, results: &mut Bytes)
+fn answers_of<E: KnownElem>(op: VecOp, from: Elem, a: &Bytes, b: &Bytes, results: &mut Bytes)
     requires one_type { op ≢ Cast → from ≡ E.ELEM }
     ensures { HasSpelled E.ELEM (16 / wider E.ELEM from)
         (λ k. answer_of op E.ELEM (element_in from a.now k) (element_in E.ELEM b.now k)) results.new }
@@ -44,7 +41,7 @@ fn answers_of<E: Element>(op: VecOp, from: Elem, a: &Bytes, b: &Bytes, results: 
 }
 
 /// Casts from each type. `b` has no say.
-fn casts_to<E: Element>(from: Elem, a: &Bytes, b: &Bytes, results: &mut Bytes)
+fn casts_to<E: KnownElem>(from: Elem, a: &Bytes, b: &Bytes, results: &mut Bytes)
     ensures { HasSpelled E.ELEM (16 / wider E.ELEM from)
         (λ k. answer_of Cast E.ELEM (element_in from a.now k) (element_in E.ELEM b.now k)) results.new }
 {
@@ -60,7 +57,7 @@ fn casts_to<E: Element>(from: Elem, a: &Bytes, b: &Bytes, results: &mut Bytes)
 
 /// Each operation within one type. The operation is written out in each arm, so that its loop is
 /// compiled for it.
-fn by_operation<E: Element>(op: VecOp, a: &Bytes, b: &Bytes, results: &mut Bytes)
+fn by_operation<E: KnownElem>(op: VecOp, a: &Bytes, b: &Bytes, results: &mut Bytes)
     ensures { HasSpelled E.ELEM (16 / wider E.ELEM E.ELEM)
         (λ k. answer_of op E.ELEM (element_in E.ELEM a.now k) (element_in E.ELEM b.now k)) results.new }
 {
@@ -92,7 +89,7 @@ fn by_operation<E: Element>(op: VecOp, a: &Bytes, b: &Bytes, results: &mut Bytes
 /// answers are the caller's once all are there: nothing of A and B can change before, as far as the
 /// compiler sees, and it takes several elements at once.
 #[inline(always)]
-fn each<F: Element, E: Element>(op: VecOp, a: &Bytes, b: &Bytes, results: &mut Bytes)
+fn each<F: KnownElem, E: KnownElem>(op: VecOp, a: &Bytes, b: &Bytes, results: &mut Bytes)
     requires one_type { op ≢ Cast → F.ELEM ≡ E.ELEM }
     ensures { HasSpelled E.ELEM (16 / wider E.ELEM F.ELEM)
         (λ k. answer_of op E.ELEM (element_in F.ELEM a.now k) (element_in E.ELEM b.now k)) results.new }

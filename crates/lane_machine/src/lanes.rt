@@ -4,6 +4,7 @@ ghost use Rattle.ven_base.specs.Store.{store_size, store_of};
 ghost use Rattle.ven_base.specs.Job.{beats_left, finished};
 ghost use Rattle.spad_store.specs.Queue.{IsQueue};
 ghost use Rattle.venice_isa.specs.declared.issue.Issue.TheVariants.{Vector};
+ghost use Rattle.venice_isa.specs.Limits.{vector_places};
 ghost use Rattle.venice_isa.specs.Footprint.{HasFootprint};
 ghost use Rattle.venice_isa.specs.Whole.{HasCounts, IsSimple, IsWhole};
 ghost use Rattle.venice_isa.specs.Beat.{not_begun};
@@ -16,7 +17,7 @@ use circular_buffer::HeapCircularBuffer;
 use spad_store::{MainMem, Spad, Unit};
 use std::alloc::{AllocError, Global};
 use std::marker::Model;
-use venice_isa::VecWork;
+use venice_isa::{VECTOR_PLACES, VecWork};
 
 /// The lanes, from 1 to 4: a queue of four vector instructions, of which the first is done beat by
 /// beat ("Beats" of docs/MACHINE.md).
@@ -40,9 +41,6 @@ impl Model for Lanes {
 }
 
 impl Lanes {
-    /// How many works the queue holds, the current one among them.
-    const PLACES: u32 = 4;
-
     /// So many lanes, from 1 to 4, with an empty queue. An `Err` says that there is no memory for
     /// its places; nothing else takes memory.
     pub fn new(alloc: Global, lanes: u32) -> Result<Lanes, AllocError>
@@ -50,7 +48,7 @@ impl Lanes {
         requires few { lanes ≤ 4 }
         ensures { IfOk result (λ unit. unit ≡ record { jobs = []; lanes = lanes }) }
     {
-        let queue = HeapCircularBuffer::with_capacity(alloc, Self::PLACES as usize)?;
+        let queue = HeapCircularBuffer::with_capacity(alloc, VECTOR_PLACES as usize)?;
         Ok(Lanes {
             lanes,
             queue,
@@ -87,7 +85,7 @@ impl Lanes {
         ensures some_lanes { 0 < self.now.lanes }
         ensures first { IfSome (slice_get self.now.jobs 0) (λ job.
             result ≡ beats_left (lane_course self.now.lanes) job) }
-        ensures queue { IsQueue (lane_course self.now.lanes) HasCounts 4 self.now.jobs }
+        ensures queue { IsQueue (lane_course self.now.lanes) HasCounts vector_places self.now.jobs }
     {
         match (self.queue.front(), &self.current) {
             (Some(work), Some(current)) => work.beats(self.lanes) - current.done,
@@ -111,6 +109,7 @@ impl Unit for Lanes {
     type Work = VecWork;
 
     ghost use Rattle.std.specs.Prelude.{ℕ, ◌<◌, ◌≤◌};
+    ghost use Rattle.venice_isa.specs.Limits.{vector_places};
     ghost use Rattle.venice_isa.specs.Footprint.{Reads, Writes};
     ghost use Rattle.venice_isa.specs.Whole.{HasCounts};
     ghost use Rattle.venice_isa.specs.Beat.{Progress as LaneProgress};
@@ -131,7 +130,7 @@ impl Unit for Lanes {
 
     ghost course = { lane_course };
 
-    ghost places = { 4 };
+    ghost places = { vector_places };
 
     ghost jobs = { λ lanes. lanes.jobs };
 

@@ -16,6 +16,3 @@ mod lanes;
 mod operand;
 
 pub use lanes::Lanes;
-
-#[cfg(test)]
-mod tests;

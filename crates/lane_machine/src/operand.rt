@@ -5,16 +5,14 @@ ghost use Rattle.spad_store.specs.Cells.{bytes_from};
 ghost use Rattle.spad_store.specs.Packed.{has_bit};
 ghost use Rattle.lane_machine.specs.Elements.{HasNumbers, HasSpelled};
 
-use crate::element::{
-    Bytes, Element, MOST_BYTES, TypeI8, TypeI16, TypeI32, TypeU8, TypeU16, TypeU32, put,
-};
+use crate::element::{Bytes, MOST_BYTES, put};
 use spad_store::Spad;
-use ven_base::{Elem, bits_of};
+use ven_base::{Elem, KnownElem, TypeI8, TypeI16, TypeI32, TypeU8, TypeU16, TypeU32, bits_of};
 use venice_isa::Walk;
 
 /// An operand: one number for all elements, of a scalar or where the operation takes no B, or the
 /// elements on a way through cells.
-#[derive(Clone, Copy, Debug)]
+#[derive(Clone, Copy)]
 pub(crate) enum Operand {
     Number(i64),
     Elements(Walk),
@@ -131,7 +129,7 @@ fn repeat(elem: Elem, n: i64, bytes: &mut Bytes)
 }
 
 /// The same of one type.
-fn repeat_as<E: Element>(n: i64, bytes: &mut Bytes)
+fn repeat_as<E: KnownElem>(n: i64, bytes: &mut Bytes)
     ensures { HasSpelled E.ELEM (16 / size_of E.ELEM) (λ _. n) bytes.new }
 {
     let elem = E::ELEM;

@@ -1,17 +1,18 @@
 //! Programs from their text to the bytes of their outputs.
-ghost use Rattle.std.specs.Prelude.{◌≡◌, ◌<◌, ◌≤◌, ◌^◌, IsTrue, IfOk, All, length};
+ghost use Rattle.std.specs.Prelude.{◌≡◌, ◌<◌, ◌≤◌, IsTrue, IfOk, All, length};
+ghost use Rattle.ven_base.specs.Limits.{cell_limit};
 ghost use Rattle.ven_base.specs.Store.{cells_alone, store_of, store_size, IsInRange};
-ghost use Rattle.spad_store.specs.Sizes.{most_cells};
 ghost use Rattle.shape_check.specs.Checked.{program_of, statement_of};
 ghost use Rattle.shape_check.specs.Meaning.{FitInputs, FitsStatement};
 ghost use Rattle.pass_plan.specs.Need.{AreSmall, need_of};
 ghost use Rattle.pass_plan.specs.Shown.{passes_of, split_of};
+ghost use Rattle.pass_plan.specs.Sizes.{nodes_in};
 ghost use Rattle.pass_plan.specs.Sound.{IsSound};
 ghost use Rattle.venice_isa.specs.Whole.{HasCounts};
 ghost use Rattle.venice_isa.specs.Footprint.{HasFootprint};
 ghost use Rattle.venice_isa.specs.declared.issue.Issue.TheVariants.{Vector};
 ghost use Rattle.dma_engine.specs.Direction.{HasBytes, issue_of};
-ghost use Rattle.split_programs.specs.CodeRoom.{code_room};
+ghost use Rattle.host_codegen.specs.CodeRoom.{split_nodes_limit};
 
 use array_meaning::eval;
 use array_syntax::parse;
@@ -24,14 +25,13 @@ use overlap_law::disciplined;
 use pass_plan::{Split, need};
 use shape_check::{Checked, CheckedStmt, StmtKind, check};
 use spad_store::{MainMem, Spad, Unit};
-use split_programs::room_laws;
 use std::alloc::{AllocError, Global};
 use std::test::Fail;
 use ven_base::{Array, Arrays, Elem, Entry, Shape, wrap};
 use venice_isa::{DmaWork, Issue, VecWork, Version, issues};
 
 /// The checked program of a text.
-fn checked_program(alloc: Global, text: &str) -> Option<Checked> {
+pub(crate) fn checked_program(alloc: Global, text: &str) -> Option<Checked> {
     if text.len() > 65_536 {
         return None;
     }
@@ -250,7 +250,7 @@ fn run(
     requires some_lanes { 0 < lanes }
     requires few_lanes { lanes ≤ 4 }
     requires some_cells { 0 < spad }
-    requires few_cells { spad ≤ most_cells }
+    requires few_cells { spad ≤ cell_limit }
 {
     if split.memory > 1_000_000 {
         return Err(Fail::from("a small program has a small memory"));
@@ -323,13 +323,12 @@ fn outputs_of(alloc: Global, program: &Checked, inputs: &Arrays) -> Result<Array
 }
 
 /// The split of a checked program.
-fn split_of_program(alloc: Global, program: &Checked) -> Result<Split, AllocError>
+pub(crate) fn split_of_program(alloc: Global, program: &Checked) -> Result<Split, AllocError>
     ensures small { IfOk result (λ split. AreSmall (passes_of split.passes.items)) }
     ensures sound { IfOk result (λ split. IsSound (split_of split)) }
-    ensures room { IfOk result (λ split. code_room (split_of split) < 2 ^ 32) }
+    ensures few { IfOk result (λ split. nodes_in (split_of split) ≤ split_nodes_limit) }
 {
     size_laws();
-    room_laws();
     // What is known of every checked program shows in its statements.
     let _known = program.stmts.as_slice();
     Ok(split(alloc, program)?)
@@ -342,7 +341,7 @@ const MOST_STEPS: u64 = 2_000_000_000;
 fn is_coded(alloc: Global, split: &Split, spad: u32, list: &[Issue]) -> Result<bool, AllocError>
     requires sound { IsSound (split_of split.now) }
     requires holds { need_of (split_of split.now).passes ≤ spad }
-    requires room { code_room (split_of split.now) < 2 ^ 32 }
+    requires few { nodes_in (split_of split.now) ≤ split_nodes_limit }
 {
     let code = code(alloc, split, spad)?;
     match issues(alloc, &code, MOST_STEPS) {
@@ -361,9 +360,9 @@ fn leaves(
 ) -> Result<bool, Fail>
     requires sound { IsSound (split_of split.now) }
     requires holds { need_of (split_of split.now).passes ≤ spad }
-    requires room { code_room (split_of split.now) < 2 ^ 32 }
+    requires few { nodes_in (split_of split.now) ≤ split_nodes_limit }
     requires some_cells { 0 < spad }
-    requires few_cells { spad ≤ most_cells }
+    requires few_cells { spad ≤ cell_limit }
 {
     let list = pipeline(alloc, split, spad)?;
     if list.len() > 1_000_000 || disciplined(Version::Two, &list).is_err() {
@@ -381,8 +380,30 @@ fn leaves(
     Ok(true)
 }
 
+/// The same in a scratchpad of so many bytes, and of twice, seven and sixty times as many.
+fn leaves_in_each(
+    alloc: Global,
+    split: &Split,
+    least: u32,
+    inputs: &Arrays,
+    outputs: &Arrays,
+) -> Result<bool, Fail>
+    requires sound { IsSound (split_of split.now) }
+    requires holds { need_of (split_of split.now).passes ≤ least }
+    requires few { nodes_in (split_of split.now) ≤ split_nodes_limit }
+    requires some_cells { 0 < least }
+    requires few_cells { least ≤ 1000 }
+{
+    Ok(
+        leaves(alloc, split, least, inputs, outputs)?
+            && leaves(alloc, split, 2 * least, inputs, outputs)?
+            && leaves(alloc, split, 7 * least, inputs, outputs)?
+            && leaves(alloc, split, 60 * least, inputs, outputs)?,
+    )
+}
+
 /// Whether the program's list is disciplined, is that of its code, and leaves its outputs on 1 to 4 lanes, in a
-/// scratchpad of its need and in one of twice its need.
+/// scratchpad of its need and in larger ones.
 fn is_right(alloc: Global, text: &str) -> Result<bool, Fail> {
     let program = checked_program(alloc, text).ok_or("the text is a program")?;
     let inputs = inputs_of(alloc, &program).ok_or("the inputs are arrays")?;
@@ -392,14 +413,10 @@ fn is_right(alloc: Global, text: &str) -> Result<bool, Fail> {
     if least == 0 || least > 1000 {
         return Ok(false);
     }
-    let least = least as u32;
-    Ok(
-        leaves(alloc, &split, least, &inputs, &outputs)?
-            && leaves(alloc, &split, 2 * least, &inputs, &outputs)?,
-    )
+    leaves_in_each(alloc, &split, least as u32, &inputs, &outputs)
 }
 
-const PROGRAMS: [&str; 37] = [
+const PROGRAMS: [&str; 41] = [
     "input a u8[1,4]; input b u8[1,4]; output y = a + b;",
     "input a u8[1,3]; output y = select(a < 10, a, 0);",
     "input a i8[1,1]; output y = select(a < 10, a, 0);",
@@ -415,6 +432,12 @@ const PROGRAMS: [&str; 37] = [
     "input a u8[2,4]; output x = section(a,0,2,1,1,2,2); output y = section(a,1,1,1,0,4,1);",
     "input a u16[1,2]; output x = stretch(a,2,3); output y = stretch(a,3,1);",
     "input a i16[2,3]; output x = transpose(a); output y = transpose(rotate(a,1,1));",
+    "input a i16[4,5]; output p = shift(a,1,-2,-1); output q = shift(a,-3,4,7); output r = shift(a,0,9,7); \
+        output s = shift(a,-4294967295,4294967295,7); output t = shift(a,4294967295,-4294967295,7);",
+    "input a i16[4,5]; output p = rotate(a,1,-2); output q = rotate(a,-11,6); \
+        output r = rotate(a,-4294967295,4294967295);",
+    "input a i16[4,5]; output p = section(a,1,3,1,2,3,1); output q = section(a,1,2,2,0,2,3); output r = transpose(a);",
+    "input a i16[4,5]; output p = stretch(a,3,1); output q = stretch(a,1,4); output r = stretch(a,3,2);",
     "input a u8[2,3]; output y = select(shift(a,0,1,1), a, 3);",
     "input a u8[2,3]; output y = select(a > 90, shift(a,0,1,1), a);",
     "input a u8[2,3]; output y = select(a >= 90, a, shift(a,0,1,1));",
@@ -501,7 +524,7 @@ fn smooth(alloc: Global, input: &str) -> Result<String, AllocError> {
 /// The split of a text, where it has a need of at most so many bytes.
 fn split_within(alloc: Global, text: &str, spad: u32) -> Result<Split, Fail>
     ensures sound { IfOk result (λ split. IsSound (split_of split)) }
-    ensures room { IfOk result (λ split. code_room (split_of split) < 2 ^ 32) }
+    ensures few { IfOk result (λ split. nodes_in (split_of split) ≤ split_nodes_limit) }
     ensures holds { IfOk result (λ split. need_of (split_of split).passes ≤ spad) }
 {
     let program = checked_program(alloc, text).ok_or("the text is a program")?;

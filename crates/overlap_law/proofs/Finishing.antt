@@ -9,7 +9,7 @@ use Rattle.venice_isa.specs.Beat.{beats_of}
 use Rattle.venice_isa.specs.Footprint.{Conflicts}
 use Rattle.venice_machine.specs.State.{Jobs, issued_course}
 use Rattle.overlap_law.specs.Kept.{ReadsOf, WritesOf, IsReadyOn}
-use Rattle.overlap_law.proofs.Exchange.{IssuedJob, size_kept, comes_nearer, same_job, same_other_job, beats_exchange}
+use Rattle.overlap_law.proofs.Exchange.{IssuedJob, size_kept, comes_nearer, beats_exchange}
 
 -- each of the jobs has beats left and lies in range
 abbrev pub AreReady : ℕ → Jobs → Size → Type 0
@@ -63,8 +63,8 @@ module _ (lane_count : ℕ) (some_lanes : 0 < lane_count) where
       exchanged n (next a store) b (after a store) apart (omega (arith, comes_nearer lane_count some_lanes a store mine)) (subst (IsInRange (ReadsOf a.work) (WritesOf a.work)) (sym size) in_range) (subst (λ (s : Size). IsReadyOn lane_count s b) (sym size) ready) in
       let once = beats_exchange lane_count some_lanes a b store apart mine ready in
       record {
-        stores = rest.stores ∙ ap (beats n (next a store)) once ∙ ap (λ job. beats n job (after a (after b store))) (sym (same_job lane_count some_lanes a b store apart mine ready));
-        jobs = rest.jobs ∙ same_other_job lane_count some_lanes a b store apart mine ready;
+        stores = rest.stores ∙ ap (beats n (next a store)) (sym once.stores) ∙ ap (λ job. beats n job (after a (after b store))) (sym once.same);
+        jobs = rest.jobs ∙ once.same_other;
       }
 
   -- the rest of one job and the next beat of a later one

@@ -1,6 +1,7 @@
 -- Sums and greatest numbers of lists of passes, step by step.
-use Rattle.std.proofs.Common.{◌≡◌, ℕ, ◌+◌, ◌<◌, ◌≤◌, max, sym, subst, ap, ◌∙◌, arith, List, [], ◌∷◌, length, get_or, take, All}
+use Rattle.std.proofs.Common.{◌≡◌, ℕ, ◌+◌, ◌^◌, ◌<◌, ◌≤◌, max, sym, subst, ap, ◌∙◌, arith, List, [], ◌∷◌, length, get_or, take, All}
 use Rattle.std.specs.Prelude.{map, fold, sum_by}
+use Rattle.std.proofs.lemmas.Nat.{mul-le}
 use Rattle.std.proofs.lemmas.List.{take-map, get_or-map, length-map}
 use Rattle.std.proofs.lemmas.List.Sums.{fold_more, sum_by_more}
 use Rattle.std.proofs.lemmas.List.Elements.{All-cons}
@@ -14,8 +15,9 @@ use Rattle.pass_plan.specs.declared.pass.PassKind.{PassKind}
 use Rattle.pass_plan.specs.declared.pass.PassKind.TheVariants.{Map, Reduce}
 use Rattle.pass_plan.specs.Pass as plain
 use Rattle.pass_plan.specs.Pass.{pass_limit}
-use Rattle.pass_plan.specs.Need.{greatest, result_buffers, widest_in, pass_need, need_of, pass_work, IsSmall, AreSmall}
+use Rattle.pass_plan.specs.Need.{greatest, result_buffers, buffers_of, widest_in, pass_need, need_of, pass_work, IsSmall, AreSmall}
 use Rattle.pass_plan.specs.Shown.{pass_of, passes_of}
+use Rattle.pass_plan.proofs.Labels.{label_few}
 
 -- the greatest so far and one more
 pub greatest_more : {X : Type 0} (f : X → ℕ) (xs : List X) (i : ℕ) (d : X) → i < length xs → greatest (map f (take (i + 1) xs)) ≡ max (greatest (map f (take i xs))) (f (get_or xs i d))
@@ -67,9 +69,30 @@ sizes_few (leaf ∷ leaves) n h = sizes_few leaves (max n (size_of leaf.elem)) (
 pub widest_few : (pass : plain.Pass) → widest_in pass ≤ 4
 widest_few pass = omega (arith, size_few pass.elem, sizes_few pass.leaves 0 (omega arith), widest_of-few pass.tree)
 
+-- a pass's greatest element has a byte at least, so its need is at least the number of its buffers
+size_some : (elem : Elem) → 1 ≤ size_of elem
+size_some U8 = omega arith
+size_some I8 = omega arith
+size_some U16 = omega arith
+size_some I16 = omega arith
+size_some U32 = omega arith
+size_some I32 = omega arith
+
+pub buffers_few : (pass : plain.Pass) → buffers_of pass ≤ pass_need pass
+buffers_few pass =
+    let some : 1 ≤ widest_in pass = omega (arith, size_some pass.elem) in
+    let more = mul-le (buffers_of pass) 1 (buffers_of pass) (widest_in pass) (omega arith) some in
+    omega (arith, more)
+
 pub result_buffers_few : (kind : PassKind) → result_buffers kind ≤ 3
 result_buffers_few Map = omega arith
 result_buffers_few (Reduce fold) = omega arith
+
+pub need_few : (pass : plain.Pass) → IsSmall pass → pass_need pass < 2 ^ 64
+need_few pass small =
+    let buffers : buffers_of pass ≤ 30000 = omega (arith, small.few_leaves, small.few_nodes, label_few pass.tree, result_buffers_few pass.kind) in
+    let all = mul-le (buffers_of pass) (widest_in pass) 30000 4 buffers (widest_few pass) in
+    omega (arith, all)
 
 -- ---- lists of passes
 

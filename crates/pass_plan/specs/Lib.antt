@@ -11,3 +11,4 @@ pub mod Laws
 pub mod Numbers
 pub mod NumberShown
 pub mod NumberSize
+pub mod Sizes

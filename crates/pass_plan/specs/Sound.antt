@@ -4,6 +4,7 @@ use Rattle.ven_base.specs.declared.elem.Elem.{Elem}
 use Rattle.ven_base.specs.declared.elem.Elem.TheVariants.{U8}
 use Rattle.ven_base.specs.declared.entry.Entry.{Entry}
 use Rattle.ven_base.specs.Elem.{size_of, IsElement}
+use Rattle.ven_base.specs.Limits.{memory_limit}
 use Rattle.ven_base.specs.Extent.{Extent, IsExtent, elements_of}
 use Rattle.ven_base.specs.Grid.{Grid}
 use Rattle.ven_base.specs.Mapping.{FitsShape, result_shape, fill_of}
@@ -18,10 +19,6 @@ pub record Split : Type 0 where
   pub arrays : List ArrayPlace
   pub table : List Entry
   pub memory : ℕ
-
--- the most bytes of main memory
-abbrev pub memory_limit : ℕ
-memory_limit = 134217728
 
 -- past the end of the arrays
 abbrev pub no_place : ArrayPlace

@@ -19,8 +19,6 @@ pub mod parts;
 mod pass;
 mod split;
 mod subtree;
-#[cfg(test)]
-mod tests;
 mod tiling;
 mod tree;
 mod turn;

@@ -1,5 +1,5 @@
 //! What scratchpad passes need, and how many steps they take at most (docs/COMPILER.md, "Need" and "Bound").
-ghost use Rattle.std.specs.Prelude.{◌≡◌, ◌≤◌, ◌+◌, ◌*◌};
+ghost use Rattle.std.specs.Prelude.{◌≡◌, ◌≤◌, ◌<◌, ◌+◌, ◌*◌, ◌^◌};
 ghost use Rattle.ven_base.specs.Extent.{element_limit};
 ghost use Rattle.pass_plan.specs.Tree.{nodes_of, widest_of};
 ghost use Rattle.pass_plan.specs.Label.{label_of, needed_together};
@@ -119,9 +119,11 @@ fn buffers_for_results(kind: PassKind) -> u64
     }
 }
 
+#[tactic(auto, using(crate::proofs::Sums::buffers_few))]
 /// The bytes of scratchpad that one pass needs.
 pub(crate) fn need_of_pass(pass: &Pass) -> u64
-    requires { IsSmall (pass_of pass.now) }
+    requires nodes { nodes_of (tree_of pass.now.tree) ≤ node_limit }
+    requires bytes { pass_need (pass_of pass.now) < 2 ^ 64 }
     ensures { result ≡ pass_need (pass_of pass.now) }
 {
     let leaves = 2 * pass.leaves.len() as u64;

@@ -3,7 +3,7 @@ use crate::{Leaf, Tree};
 use ven_base::{Elem, Fold, Shape};
 
 /// What a pass makes of the values of its tree.
-#[derive(Clone, Copy, Debug, PartialEq, Eq)]
+#[derive(Clone, Copy)]
 pub enum PassKind {
     /// An array of them, in the shape of the domain.
     Map,

@@ -3,7 +3,7 @@ use crate::Pass;
 use ven_base::{Elem, Entry, Shape};
 
 /// An array of main memory: its type and shape, and the place of its first byte.
-#[derive(Clone, Copy, Debug, PartialEq, Eq)]
+#[derive(Clone, Copy)]
 pub struct ArrayPlace {
     pub elem: Elem,
     pub shape: Shape,

@@ -1,9 +1,11 @@
 //! The tiles of a pass (docs/COMPILER.md, "Tiles").
 ghost use Rattle.std.specs.Prelude.{◌≡◌, ◌≤◌, ◌<◌};
-ghost use Rattle.pass_plan.specs.Need.{pass_need, IsSmall};
+ghost use Rattle.pass_plan.specs.Tree.{nodes_of};
+ghost use Rattle.pass_plan.specs.Pass.{node_limit};
+ghost use Rattle.pass_plan.specs.Need.{pass_need};
 ghost use Rattle.pass_plan.specs.Tile.{tile_of, tiles_of, piece_of, IsTileOf};
 ghost use Rattle.pass_plan.specs.Buffers as plan;
-ghost use Rattle.pass_plan.specs.Shown.{pass_of};
+ghost use Rattle.pass_plan.specs.Shown.{tree_of, pass_of};
 
 use crate::needs::need_of_pass;
 use crate::parts::{Piece, Tile};
@@ -11,7 +13,7 @@ use crate::{Pass, PassKind};
 
 /// The tile of a pass in `spad` bytes of scratchpad: whole rows where one fits, else a part of one.
 pub fn tile(pass: &Pass, spad: u32) -> Tile
-    requires small { IsSmall (pass_of pass.now) }
+    requires small { nodes_of (tree_of pass.now.tree) ≤ node_limit }
     requires holds { pass_need (pass_of pass.now) ≤ spad }
     ensures { result ≡ tile_of (pass_of pass.now) spad }
 {

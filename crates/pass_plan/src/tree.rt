@@ -2,7 +2,7 @@
 use ven_base::{Elem, Op1, Op2};
 
 /// What an inner node of a tree does.
-#[derive(Clone, Copy, Debug, PartialEq, Eq)]
+#[derive(Clone, Copy)]
 pub enum TreeOp {
     One(Op1),
     Two(Op2),

@@ -8,7 +8,7 @@ use smallvec::SmallVec;
 use std::alloc::{AllocError, Global};
 
 /// A computed operand: its place among the operands, from 0, its number among the tree's nodes, and its label.
-#[derive(Clone, Copy, Debug, Default, PartialEq, Eq)]
+#[derive(Clone, Copy, Default)]
 pub struct Turn {
     pub place: usize,
     pub number: u32,
@@ -16,7 +16,7 @@ pub struct Turn {
 }
 
 /// A tree's label, and how many inner nodes it has: both 0 for a leaf or a literal.
-#[derive(Clone, Copy, Debug, Default, PartialEq, Eq)]
+#[derive(Clone, Copy, Default)]
 pub struct TreeSize {
     pub label: u32,
     pub inner: u32,

@@ -4,7 +4,7 @@ use std::marker::Model;
 use ven_base::{Elem, Name, Shape};
 
 /// What a statement is.
-#[derive(Clone, Copy, Debug, PartialEq, Eq)]
+#[derive(Clone, Copy, PartialEq, Eq)]
 pub enum StmtKind {
     Input,
     Let,
@@ -13,7 +13,7 @@ pub enum StmtKind {
 
 /// A statement of a checked program: what it is, the name that it declares, and the type and shape of the name's array.
 /// `value` is `None` exactly for an input.
-#[derive(Debug, Drop)]
+#[derive(Drop)]
 pub struct CheckedStmt {
     pub kind: StmtKind,
     pub name: Name,
@@ -24,7 +24,7 @@ pub struct CheckedStmt {
 
 /// A checked program: one that keeps the language's limits and all rules of checking. Contracts see it as the list of
 /// its statements, and `program_of` gives their plain values.
-#[derive(Debug, Drop)]
+#[derive(Drop)]
 pub struct Checked {
     pub stmts: Vec<CheckedStmt>,
 }

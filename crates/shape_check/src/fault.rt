@@ -7,7 +7,7 @@ use std::alloc::AllocError;
 
 /// Why a program isn't right (docs/LANGUAGE.md, "Checking"). `at` is the place in the text, in bytes from 0, of the
 /// name, node, number or `[` at fault.
-#[derive(Clone, Copy, Debug, PartialEq, Eq)]
+#[derive(Clone, Copy)]
 pub enum CheckFault {
     /// An earlier statement declares the name.
     Twice { at: u32 },

@@ -15,8 +15,6 @@ mod laws;
 mod names;
 mod operand;
 mod rules;
-#[cfg(test)]
-mod tests;
 mod typed;
 mod work;
 

@@ -2,7 +2,7 @@
 use ven_base::{Elem, Fold, Mapping, Op1, Op2, Shape};
 
 /// The type and the shape of an array.
-#[derive(Clone, Copy, Debug, PartialEq, Eq)]
+#[derive(Clone, Copy)]
 pub struct ArrayType {
     pub elem: Elem,
     pub shape: Shape,
@@ -10,7 +10,7 @@ pub struct ArrayType {
 
 /// An expression of a checked program: what it is, and the type and shape of its array. A literal has those of its
 /// neighbour.
-#[derive(Debug, Drop)]
+#[derive(Drop)]
 #[cycle(typed)]
 pub struct Typed {
     pub kind: TypedKind,
@@ -19,7 +19,7 @@ pub struct Typed {
 }
 
 /// What an expression is. Its operands stand from left to right.
-#[derive(Debug, Drop)]
+#[derive(Drop)]
 #[cycle(typed)]
 pub enum TypedKind {
     /// The name that this statement declares; statements count from 0.

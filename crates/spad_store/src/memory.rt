@@ -1,33 +1,33 @@
 //! The memory of the vector machine.
 
 ghost use Rattle.std.specs.Prelude.{◌≡◌, ◌+◌, ◌<◌, ◌≤◌, ◌++◌, IfOk, length, replicate, take, drop, slice_index, slice_set};
-ghost use Rattle.spad_store.specs.Sizes.{most_bytes};
+ghost use Rattle.ven_base.specs.Limits.{memory_limit};
 
 use std::alloc::{AllocError, Global};
 use std::marker::Model;
 
 /// The memory: bytes by their place from 0 on, none to 134,217,728 of them (docs/MACHINE.md, "Cells and memory"). It is
 /// seen as the list of its bytes.
-#[derive(Debug, Drop)]
+#[derive(Drop)]
 pub struct MainMem {
     bytes: Vec<u8>,
 }
 
 impl Model for MainMem {
     ghost use Rattle.std.specs.Prelude.{ℕ, List, length, ◌≤◌};
-    ghost use Rattle.spad_store.specs.Sizes.{most_bytes};
+    ghost use Rattle.ven_base.specs.Limits.{memory_limit};
 
     ghost Value = { List ℕ };
 
     ghost view = { λ memory. memory.bytes.items };
 
-    ghost invariant = { λ memory. length memory.bytes.items ≤ most_bytes };
+    ghost invariant = { λ memory. length memory.bytes.items ≤ memory_limit };
 }
 
 impl MainMem {
     /// A memory of so many bytes, all 0. Condition: `bytes` is at most 134,217,728. Err is want of memory.
     pub fn new(alloc: Global, bytes: u32) -> Result<MainMem, AllocError>
-        requires { bytes ≤ most_bytes }
+        requires { bytes ≤ memory_limit }
         ensures { IfOk result (λ memory. memory ≡ replicate bytes 0) }
     {
         let bytes = vec![in alloc; 0; bytes as usize]?;
@@ -37,7 +37,7 @@ impl MainMem {
     /// The number of bytes, at most 134,217,728.
     pub fn len(&self) -> u32
         ensures count { result ≡ length self.now }
-        ensures few { result ≤ most_bytes }
+        ensures few { result ≤ memory_limit }
     {
         self.bytes.len() as u32
     }

@@ -2,7 +2,7 @@
 
 ghost use Rattle.std.specs.Prelude.{◌≡◌, ◌+◌, ◌<◌, ◌≤◌, ◌^◌, false, IfOk, length, replicate, slice_set};
 ghost use Rattle.spad_store.specs.Cells.{byte_at, flag_at, bytes_from, flags_from, with_bytes, with_flags, flags_of};
-ghost use Rattle.spad_store.specs.Sizes.{most_cells};
+ghost use Rattle.ven_base.specs.Limits.{cell_limit};
 
 use crate::flags;
 use std::alloc::{AllocError, Global};
@@ -11,7 +11,7 @@ use std::marker::Model;
 /// The scratchpad: cells by their place from 0 on, 1 to 1,048,576 of them, each a byte and the flag beside it
 /// (docs/MACHINE.md, "Cells and memory"). It is seen as the list of its cells. The bytes stand in one vector and the
 /// flags in words of 64 bits, so that a part of them is copied as a whole.
-#[derive(Debug, Drop)]
+#[derive(Drop)]
 pub struct Spad {
     bytes: Vec<u8>,
     flags: Vec<u64>,
@@ -35,7 +35,7 @@ impl Spad {
     /// its cells, is from 1 to 1,048,576. Err is want of memory.
     pub fn new(alloc: Global, bytes: u32) -> Result<Spad, AllocError>
         requires some { 0 < bytes }
-        requires few { bytes ≤ most_cells }
+        requires few { bytes ≤ cell_limit }
         ensures { IfOk result (λ spad. spad ≡ replicate bytes (0, false)) }
     {
         let flags = vec![in alloc; 0; (bytes / 64 + 1) as usize]?;
@@ -47,7 +47,7 @@ impl Spad {
     pub fn len(&self) -> u32
         ensures count { result ≡ length self.now }
         ensures some { 0 < result }
-        ensures few { result ≤ most_cells }
+        ensures few { result ≤ cell_limit }
     {
         self.bytes.len() as u32
     }

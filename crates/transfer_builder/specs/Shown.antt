@@ -1,5 +1,5 @@
 -- Pieces, runs, axes and patches of the code as plain values.
-use Rattle.std.specs.Prelude.{ℕ, ◌<◌, false}
+use Rattle.std.specs.Prelude.{ℕ, ◌+◌, ◌<◌, false}
 use Rattle.ven_base.specs.Place.{IsMove}
 use Rattle.host_programs.specs.Expr as plain
 use Rattle.host_programs.specs.Program as list
@@ -95,6 +95,18 @@ patch_of patch = record {
   from_step = expr_of patch.from_step;
 }
 
+-- what the command of `patch_program` moves: register d + 1 has its rows, and the next one its columns
+abbrev pub patch_order : reads.SidesExpr → reads.PatchExpr → (d : ℕ) → list.TransferOrder
+patch_order s p d = record {
+  mem = plain.Offset (axes.scaled p.from s.size) s.array;
+  spad = plain.Sum s.buffer (axes.scaled p.to s.size);
+  rows = plain.Variable (d + 1);
+  bytes = axes.scaled (plain.Variable (d + 1 + 1)) s.size;
+  mem_step = plain.IfLess (plain.Variable (d + 1)) (plain.Number 2) (plain.Number 0) (axes.scaled p.from_step s.size);
+  spad_step = plain.IfLess (plain.Variable (d + 1)) (plain.Number 2) (plain.Number 0) (axes.scaled p.to_step s.size);
+  tag = s.tag;
+}
+
 -- the patch of two runs, those of a run of rows and columns, and those of rows and columns
 abbrev pub patch_by : Way → reads.SidesExpr → (a b : axes.RunExpr) → reads.PatchExpr
 patch_by Lines s a b = reads.line_expr s a b
@@ -122,4 +134,13 @@ fill_of fill = record {
   rows = expr_of fill.rows;
   cols = expr_of fill.cols;
   step = expr_of fill.step;
+}
+
+-- the fill of `columns_fill`: register d has how many rows, and the next one how many are left
+abbrev pub columns_fill_of : fills.FillSides → (first before columns : plain.Expr) → (d : ℕ) → fills.FillExpr
+columns_fill_of s first before columns d = record {
+  at = axes.plus (axes.times first (fills.row_bytes s)) (axes.plus before s.buffer);
+  rows = plain.Variable (d + 1);
+  cols = plain.IfLess columns s.width columns (plain.Product (plain.Variable d) columns);
+  step = plain.IfLess (plain.Variable (d + 1)) (plain.Number 2) (plain.Number 0) (fills.row_bytes s);
 }

@@ -8,15 +8,15 @@ ghost use Rattle.host_programs.specs.Program as list;
 ghost use Rattle.host_programs.specs.Shown.{expr_of, order_of, program_of};
 ghost use Rattle.transfer_programs.specs.Axis as axes;
 ghost use Rattle.transfer_programs.specs.FillProgram as plan;
-ghost use Rattle.transfer_builder.specs.Shown.{small_of, piece_of, fill_sides_of, fill_of};
+ghost use Rattle.transfer_builder.specs.Shown.{small_of, piece_of, fill_sides_of, fill_of, columns_fill_of};
 
 use crate::axis::Span;
 use crate::small_expr::{PieceExpr, SmallExpr};
 use crate::sums::{copy_of, lesser, plus, scaled, times};
+use dma_segments::{move_kind, word_of};
 use host_programs::{Expr, Order, Program, VectorOrder};
 use pass_plan::Leaf;
 use std::alloc::{AllocError, Global};
-use vector_codegen::{move_kind, word_of};
 use ven_base::{Elem, Mapping, Shape};
 
 /// The type of a piece's elements and the number that fills it; its first cell, and how wide it is.
@@ -73,6 +73,23 @@ fn row_bytes(alloc: Global, s: FillSides) -> Result<Expr, AllocError>
     scaled(alloc, s.width.expr(alloc)?, s.elem.size())
 }
 
+/// The cell of a row's first byte.
+fn row_cell(alloc: Global, s: FillSides, row: Expr) -> Result<Expr, AllocError>
+    ensures { IfOk result (λ e. expr_of e
+        ≡ axes.plus (axes.times (expr_of row) (plan.row_bytes (fill_sides_of s))) (small_of s.buffer)) }
+{
+    let way = times(alloc, row, row_bytes(alloc, s)?)?;
+    plus(alloc, way, s.buffer.expr(alloc)?)
+}
+
+/// How many elements so many rows have.
+fn elements_of(alloc: Global, s: FillSides, rows: SmallExpr) -> Result<Expr, AllocError>
+    ensures { IfOk result (λ e. expr_of e ≡ plain.Product (small_of rows) (small_of s.width)) }
+{
+    let rows = rows.expr(alloc)?;
+    Expr::product(alloc, rows, s.width.expr(alloc)?)
+}
+
 /// Fills whole rows, which are one row, where there are any.
 fn rows_fill(
     alloc: Global,
@@ -82,11 +99,12 @@ fn rows_fill(
 ) -> Result<Program, AllocError>
     ensures { IfOk result (λ p. program_of p ≡ plan.rows_fill (fill_sides_of s) (expr_of first) (small_of count)) }
 {
-    let way = times(alloc, first, row_bytes(alloc, s)?)?;
+    let at = row_cell(alloc, s, first)?;
+    let cols = elements_of(alloc, s, count)?;
     let fill = FillExpr {
-        at: plus(alloc, way, s.buffer.expr(alloc)?)?,
+        at,
         rows: Expr::Number(1),
-        cols: Expr::product(alloc, count.expr(alloc)?, s.width.expr(alloc)?)?,
+        cols,
         step: Expr::Number(0),
     };
     let command = Program::Emit(fill_order(s, fill));
@@ -108,38 +126,94 @@ fn joined_columns(
     Expr::if_less(alloc, columns.expr(alloc)?, width, part, all)
 }
 
+/// The cell of the columns' first byte in the first row.
+fn columns_cell(alloc: Global, s: FillSides, part: &ColumnsExpr) -> Result<Expr, AllocError>
+    ensures { IfOk result (λ e. expr_of e
+        ≡ axes.plus (axes.times (expr_of part.now.first) (plan.row_bytes (fill_sides_of s)))
+        (axes.plus (expr_of part.now.before) (small_of s.buffer))) }
+{
+    let before = copy_of(alloc, &part.before)?;
+    let cell = plus(alloc, before, s.buffer.expr(alloc)?)?;
+    let first = copy_of(alloc, &part.first)?;
+    plus(alloc, times(alloc, first, row_bytes(alloc, s)?)?, cell)
+}
+
+/// How far the rows stand apart, whose number is in a register: 0 where they are fewer than two.
+fn step_between(alloc: Global, s: FillSides, rows: u8) -> Result<Expr, AllocError>
+    ensures { IfOk result (λ e. expr_of e ≡ plain.IfLess (plain.Variable rows) (plain.Number 2) (plain.Number 0)
+        (plan.row_bytes (fill_sides_of s))) }
+{
+    let bytes = row_bytes(alloc, s)?;
+    Expr::if_less(
+        alloc,
+        Expr::Variable(rows),
+        Expr::Number(2),
+        Expr::Number(0),
+        bytes,
+    )
+}
+
+/// The fill of the columns: register `d` has how many rows, and the next one how many are left.
+fn columns_expr(
+    alloc: Global,
+    s: FillSides,
+    part: &ColumnsExpr,
+    d: u8,
+) -> Result<FillExpr, AllocError>
+    requires { d + 1 ≤ 255 }
+    ensures { IfOk result (λ fill. fill_of fill ≡ columns_fill_of (fill_sides_of s) (expr_of part.now.first)
+        (expr_of part.now.before) (small_of part.now.columns) d) }
+{
+    let at = columns_cell(alloc, s, part)?;
+    let cols = joined_columns(alloc, s, part.columns, d)?;
+    let step = step_between(alloc, s, d + 1)?;
+    Ok(FillExpr {
+        at,
+        rows: Expr::Variable(d + 1),
+        cols,
+        step,
+    })
+}
+
+/// How many rows are left where rows as wide as the piece are one: register `d` has how many there are.
+fn rows_left(alloc: Global, s: FillSides, columns: SmallExpr, d: u8) -> Result<Expr, AllocError>
+    ensures { IfOk result (λ e. expr_of e ≡ plain.IfLess (small_of columns) (small_of s.width) (plain.Variable d)
+        (plain.Number 1)) }
+{
+    let columns = columns.expr(alloc)?;
+    let width = s.width.expr(alloc)?;
+    Expr::if_less(alloc, columns, width, Expr::Variable(d), Expr::Number(1))
+}
+
 /// So many columns of rows. Register `d` has how many rows, and the next one how many are left where rows as wide as
 /// the piece are one.
 fn columns_fill(
     alloc: Global,
     s: FillSides,
-    part: ColumnsExpr,
+    part: &ColumnsExpr,
     d: u8,
 ) -> Result<Program, AllocError>
     requires { d + 1 ≤ 255 }
-    ensures { IfOk result (λ p. program_of p ≡ plan.columns_fill (fill_sides_of s) (expr_of part.first)
-        (expr_of part.count) (expr_of part.before) (small_of part.columns) d) }
+    ensures { IfOk result (λ p. program_of p ≡ plan.columns_fill (fill_sides_of s) (expr_of part.now.first)
+        (expr_of part.now.count) (expr_of part.now.before) (small_of part.now.columns) d) }
 {
-    let columns = part.columns;
-    let way = times(alloc, part.first, row_bytes(alloc, s)?)?;
-    let cell = plus(alloc, part.before, s.buffer.expr(alloc)?)?;
-    let (rows, two, none) = (Expr::Variable(d + 1), Expr::Number(2), Expr::Number(0));
-    let fill = FillExpr {
-        at: plus(alloc, way, cell)?,
-        rows: Expr::Variable(d + 1),
-        cols: joined_columns(alloc, s, columns, d)?,
-        step: Expr::if_less(alloc, rows, two, none, row_bytes(alloc, s)?)?,
-    };
-    let command = Program::Emit(fill_order(s, fill));
-    let (width, all, one) = (s.width.expr(alloc)?, Expr::Variable(d), Expr::Number(1));
-    let left = Expr::if_less(alloc, columns.expr(alloc)?, width, all, one)?;
-    let named = Program::with(alloc, left, command)?;
+    let command = Program::Emit(fill_order(s, columns_expr(alloc, s, part, d)?));
+    let named = Program::with(alloc, rows_left(alloc, s, part.columns, d)?, command)?;
     let guarded = Program::unless_less(alloc, Expr::Variable(d), Expr::Number(1), named)?;
-    let counted = Program::with(alloc, part.count, guarded)?;
-    Program::unless_less(alloc, columns.expr(alloc)?, Expr::Number(1), counted)
+    let counted = Program::with(alloc, copy_of(alloc, &part.count)?, guarded)?;
+    Program::unless_less(alloc, part.columns.expr(alloc)?, Expr::Number(1), counted)
 }
 
 // ---- the fills of a shift
+
+/// The place `way` further on than the one behind an axis' last.
+fn later_end(alloc: Global, way: u32, span: Span) -> Result<Expr, AllocError>
+    ensures { IfOk result (λ e. expr_of e ≡ plain.Offset (plain.Sum (small_of span.start) (small_of span.n)) way) }
+{
+    let start = span.start.expr(alloc)?;
+    let end = Expr::sum(alloc, start, span.n.expr(alloc)?)?;
+    Expr::offset(alloc, end, way)
+}
 
 /// How many places of an axis of `size` places come from behind its end, where they come from places `way` further on.
 fn outside_later(alloc: Global, size: u32, way: u32, span: Span) -> Result<Expr, AllocError>
@@ -149,10 +223,9 @@ fn outside_later(alloc: Global, size: u32, way: u32, span: Span) -> Result<Expr,
         (axes.lesser (small_of span.n)
         (plain.Difference (plain.Offset (plain.Sum (small_of span.start) (small_of span.n)) way) (plain.Number size)))) }
 {
-    let end = Expr::sum(alloc, span.start.expr(alloc)?, span.n.expr(alloc)?)?;
-    let past = Expr::offset(alloc, end, way)?;
-    let over = Expr::difference(alloc, copy_of(alloc, &past)?, Expr::Number(size))?;
+    let over = Expr::difference(alloc, later_end(alloc, way, span)?, Expr::Number(size))?;
     let count = lesser(alloc, span.n.expr(alloc)?, over)?;
+    let past = later_end(alloc, way, span)?;
     Expr::if_less(alloc, past, Expr::Number(size + 1), Expr::Number(0), count)
 }
 
@@ -213,6 +286,29 @@ fn sourced_rows(alloc: Global, outside: Outside) -> Result<Expr, AllocError>
     Expr::difference(alloc, height, rows)
 }
 
+/// Fills columns of the rows that have a source.
+fn sourced_fills(
+    alloc: Global,
+    s: FillSides,
+    outside: Outside,
+    first: Expr,
+    before: Expr,
+    d: u8,
+) -> Result<Program, AllocError>
+    requires { d + 1 ≤ 255 }
+    ensures { IfOk result (λ p. program_of p ≡ plan.columns_fill (fill_sides_of s) (expr_of first)
+        (plain.Difference (small_of outside.height) (small_of outside.rows)) (expr_of before)
+        (small_of outside.columns) d) }
+{
+    let part = ColumnsExpr {
+        first,
+        count: sourced_rows(alloc, outside)?,
+        before,
+        columns: outside.columns,
+    };
+    columns_fill(alloc, s, &part, d)
+}
+
 /// Fills columns of the other rows, and then the last rows.
 fn later_fills(
     alloc: Global,
@@ -229,13 +325,7 @@ fn later_fills(
         (plan.rows_fill (fill_sides_of s) (plain.Difference (small_of outside.height) (small_of outside.rows))
         (small_of outside.rows))) }
 {
-    let part = ColumnsExpr {
-        first: Expr::Number(0),
-        count: sourced_rows(alloc, outside)?,
-        before,
-        columns: outside.columns,
-    };
-    let columns = columns_fill(alloc, s, part, d)?;
+    let columns = sourced_fills(alloc, s, outside, Expr::Number(0), before, d)?;
     let last = rows_fill(alloc, s, sourced_rows(alloc, outside)?, outside.rows)?;
     Program::both(alloc, columns, last)
 }
@@ -255,13 +345,8 @@ fn earlier_fills(
         (plain.Difference (small_of outside.height) (small_of outside.rows)) (expr_of before)
         (small_of outside.columns) d)) }
 {
-    let part = ColumnsExpr {
-        first: outside.rows.expr(alloc)?,
-        count: sourced_rows(alloc, outside)?,
-        before,
-        columns: outside.columns,
-    };
-    let columns = columns_fill(alloc, s, part, d)?;
+    let rows = outside.rows.expr(alloc)?;
+    let columns = sourced_fills(alloc, s, outside, rows, before, d)?;
     let first = rows_fill(alloc, s, Expr::Number(0), outside.rows)?;
     Program::both(alloc, first, columns)
 }

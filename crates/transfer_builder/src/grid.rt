@@ -57,7 +57,7 @@ impl Body for Patches {
 
     fn program(&self, alloc: Global, d: u8, run: RunExpr) -> Result<Program, AllocError> {
         let patch = patch_expr(alloc, self.way, self.sides, &self.row, &run)?;
-        patch_program(alloc, false, self.sides, patch, d)
+        patch_program(alloc, false, self.sides, &patch, d)
     }
 }
 

@@ -30,8 +30,6 @@ mod run_expr;
 mod shifts;
 mod small_expr;
 mod sums;
-#[cfg(test)]
-mod tests;
 mod writing;
 
 pub use filling::fill_program;

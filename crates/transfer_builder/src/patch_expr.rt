@@ -1,14 +1,15 @@
 //! Patches of a piece by expressions, and their commands (`specs/ReadProgram`). All is counted in elements.
 ghost use Rattle.std.specs.Prelude.{◌≡◌, ◌+◌, ◌≤◌, IfOk};
 ghost use Rattle.host_programs.specs.Expr as plain;
-ghost use Rattle.host_programs.specs.Shown.{expr_of, program_of};
+ghost use Rattle.host_programs.specs.Program as list;
+ghost use Rattle.host_programs.specs.Shown.{expr_of, transfer_of, program_of};
 ghost use Rattle.transfer_programs.specs.Axis as axes;
 ghost use Rattle.transfer_programs.specs.ReadProgram as reads;
-ghost use Rattle.transfer_builder.specs.Shown.{run_of, sides_of, patch_of};
+ghost use Rattle.transfer_builder.specs.Shown.{small_of, run_of, sides_of, patch_of, patch_order};
 
 use crate::run_expr::RunExpr;
 use crate::small_expr::SmallExpr;
-use crate::sums::{copy_of, plus, scaled, times};
+use crate::sums::{copy_of, plus, scaled, scaled_copy, times};
 use host_programs::{Expr, Order, Program, TransferOrder};
 use std::alloc::{AllocError, Global};
 
@@ -42,9 +43,17 @@ pub struct PatchExpr {
 fn source_expr(alloc: Global, s: Sides, a: &RunExpr, b: &RunExpr) -> Result<Expr, AllocError>
     ensures { IfOk result (λ e. expr_of e ≡ reads.source_expr (sides_of s) (run_of a.now) (run_of b.now)) }
 {
-    let row = scaled(alloc, copy_of(alloc, &a.source)?, s.row_pitch)?;
-    let column = scaled(alloc, copy_of(alloc, &b.source)?, s.column_pitch)?;
+    let row = scaled_copy(alloc, &a.source, s.row_pitch)?;
+    let column = scaled_copy(alloc, &b.source, s.column_pitch)?;
     Expr::sum(alloc, row, column)
+}
+
+/// So many rows of the piece, in elements.
+fn rows_expr(alloc: Global, s: Sides, rows: &Expr) -> Result<Expr, AllocError>
+    ensures { IfOk result (λ e. expr_of e ≡ axes.times (expr_of rows.now) (small_of s.width)) }
+{
+    let rows = copy_of(alloc, rows)?;
+    times(alloc, rows, s.width.expr(alloc)?)
 }
 
 /// The element of the piece in which the first of two runs stands.
@@ -52,7 +61,7 @@ fn place_expr(alloc: Global, s: Sides, a: &RunExpr, b: &RunExpr) -> Result<Expr,
     ensures { IfOk result (λ e. expr_of e
         ≡ axes.plus (axes.times (expr_of a.now.first) (sides_of s).width) (expr_of b.now.first)) }
 {
-    let row = times(alloc, copy_of(alloc, &a.first)?, s.width.expr(alloc)?)?;
+    let row = rows_expr(alloc, s, &a.first)?;
     plus(alloc, row, copy_of(alloc, &b.first)?)
 }
 
@@ -64,9 +73,9 @@ pub fn line_expr(alloc: Global, s: Sides, a: &RunExpr, b: &RunExpr) -> Result<Pa
         rows: copy_of(alloc, &a.count)?,
         cols: copy_of(alloc, &b.count)?,
         to: place_expr(alloc, s, a, b)?,
-        to_step: times(alloc, copy_of(alloc, &a.step)?, s.width.expr(alloc)?)?,
+        to_step: rows_expr(alloc, s, &a.step)?,
         from: source_expr(alloc, s, a, b)?,
-        from_step: scaled(alloc, copy_of(alloc, &a.source_step)?, s.row_pitch)?,
+        from_step: scaled_copy(alloc, &a.source_step, s.row_pitch)?,
     })
 }
 
@@ -85,7 +94,7 @@ pub fn cross_expr(
         to: place_expr(alloc, s, a, b)?,
         to_step: copy_of(alloc, &b.step)?,
         from: source_expr(alloc, s, a, b)?,
-        from_step: scaled(alloc, copy_of(alloc, &b.source_step)?, s.column_pitch)?,
+        from_step: scaled_copy(alloc, &b.source_step, s.column_pitch)?,
     })
 }
 
@@ -110,11 +119,11 @@ fn is_joined(alloc: Global, p: &PatchExpr) -> Result<Expr, AllocError>
 }
 
 /// A number of elements in bytes, or 0 where the rows, whose number is in a register, are fewer than two.
-fn step_between(alloc: Global, rows: u8, step: Expr, size: u32) -> Result<Expr, AllocError>
+fn step_between(alloc: Global, rows: u8, step: &Expr, size: u32) -> Result<Expr, AllocError>
     ensures { IfOk result (λ e. expr_of e ≡ plain.IfLess (plain.Variable rows) (plain.Number 2) (plain.Number 0)
-        (axes.scaled (expr_of step) size)) }
+        (axes.scaled (expr_of step.now) size)) }
 {
-    let bytes = scaled(alloc, step, size)?;
+    let bytes = scaled_copy(alloc, step, size)?;
     let rows = Expr::Variable(rows);
     Expr::if_less(alloc, rows, Expr::Number(2), Expr::Number(0), bytes)
 }
@@ -127,33 +136,71 @@ fn unless_joined(alloc: Global, flag: u8, x: Expr, y: Expr) -> Result<Expr, Allo
     Expr::if_less(alloc, Expr::Variable(flag), Expr::Number(1), x, y)
 }
 
+/// The place of the patch's first byte in memory.
+fn memory_place(alloc: Global, s: Sides, p: &PatchExpr) -> Result<Expr, AllocError>
+    ensures { IfOk result (λ e. expr_of e ≡ plain.Offset (axes.scaled (expr_of p.now.from) s.size) s.array) }
+{
+    Expr::offset(alloc, scaled_copy(alloc, &p.from, s.size)?, s.array)
+}
+
+/// The cell of its first byte.
+fn buffer_cell(alloc: Global, s: Sides, p: &PatchExpr) -> Result<Expr, AllocError>
+    ensures { IfOk result (λ e. expr_of e ≡ plain.Sum (small_of s.buffer) (axes.scaled (expr_of p.now.to) s.size)) }
+{
+    let to = scaled_copy(alloc, &p.to, s.size)?;
+    Expr::sum(alloc, s.buffer.expr(alloc)?, to)
+}
+
+/// What the patch's command moves: register `d + 1` has its rows, and the next one its columns.
+fn patch_order(alloc: Global, s: Sides, p: &PatchExpr, d: u8) -> Result<TransferOrder, AllocError>
+    requires { d + 2 ≤ 255 }
+    ensures { IfOk result (λ work. transfer_of work ≡ patch_order (sides_of s) (patch_of p.now) d) }
+{
+    Ok(TransferOrder {
+        mem: memory_place(alloc, s, p)?,
+        spad: buffer_cell(alloc, s, p)?,
+        rows: Expr::Variable(d + 1),
+        bytes: scaled(alloc, Expr::Variable(d + 2), s.size)?,
+        mem_step: step_between(alloc, d + 1, &p.from_step, s.size)?,
+        spad_step: step_between(alloc, d + 1, &p.to_step, s.size)?,
+        tag: s.tag.expr(alloc)?,
+    })
+}
+
+/// The program where register `d + 1` has the rows of the patch's command: 1 where register `d` is 1.
+fn with_rows(alloc: Global, p: &PatchExpr, d: u8, q: Program) -> Result<Program, AllocError>
+    ensures { IfOk result (λ r. program_of r ≡ list.Let (plain.IfLess (plain.Variable d) (plain.Number 1)
+        (expr_of p.now.rows) (plain.Number 1)) (program_of q)) }
+{
+    let rows = copy_of(alloc, &p.rows)?;
+    Program::with(alloc, unless_joined(alloc, d, rows, Expr::Number(1))?, q)
+}
+
+/// The columns of the patch's command: those of all rows where register `d` is 1.
+fn columns_expr(alloc: Global, p: &PatchExpr, d: u8) -> Result<Expr, AllocError>
+    ensures { IfOk result (λ e. expr_of e ≡ plain.IfLess (plain.Variable d) (plain.Number 1) (expr_of p.now.cols)
+        (plain.Product (expr_of p.now.rows) (expr_of p.now.cols))) }
+{
+    let rows = copy_of(alloc, &p.rows)?;
+    let all = Expr::product(alloc, rows, copy_of(alloc, &p.cols)?)?;
+    unless_joined(alloc, d, copy_of(alloc, &p.cols)?, all)
+}
+
 /// The patch's command: a write, or else a read. Register `d` says whether its rows are one, and the next two have its
 /// rows and columns then.
 pub fn patch_program(
     alloc: Global,
     write: bool,
     s: Sides,
-    p: PatchExpr,
+    p: &PatchExpr,
     d: u8,
 ) -> Result<Program, AllocError>
     requires { d + 2 ≤ 255 }
-    ensures { IfOk result (λ r. program_of r ≡ reads.patch_program write (sides_of s) (patch_of p) d) }
+    ensures { IfOk result (λ r. program_of r ≡ reads.patch_program write (sides_of s) (patch_of p.now) d) }
 {
-    let joined = is_joined(alloc, &p)?;
-    let product = Expr::product(alloc, copy_of(alloc, &p.rows)?, copy_of(alloc, &p.cols)?)?;
-    let rows = unless_joined(alloc, d, p.rows, Expr::Number(1))?;
-    let cols = unless_joined(alloc, d, p.cols, product)?;
-    let to = scaled(alloc, p.to, s.size)?;
-    let work = TransferOrder {
-        mem: Expr::offset(alloc, scaled(alloc, p.from, s.size)?, s.array)?,
-        spad: Expr::sum(alloc, s.buffer.expr(alloc)?, to)?,
-        rows: Expr::Variable(d + 1),
-        bytes: scaled(alloc, Expr::Variable(d + 2), s.size)?,
-        mem_step: step_between(alloc, d + 1, p.from_step, s.size)?,
-        spad_step: step_between(alloc, d + 1, p.to_step, s.size)?,
-        tag: s.tag.expr(alloc)?,
-    };
+    let work = patch_order(alloc, s, p, d)?;
     let command = Program::Emit(Order::IssueTransfer { write, work });
-    let wide = Program::with(alloc, cols, command)?;
-    Program::with(alloc, joined, Program::with(alloc, rows, wide)?)
+    let wide = Program::with(alloc, columns_expr(alloc, p, d)?, command)?;
+    let high = with_rows(alloc, p, d, wide)?;
+    Program::with(alloc, is_joined(alloc, p)?, high)
 }

@@ -58,6 +58,15 @@ fn behind_end<B: Body>(alloc: Global, span: Span, d: u8, body: &B) -> Result<Pro
     some_places(alloc, places, d + 2, body)
 }
 
+/// How many places stand before the end: register `d` has the first's source.
+fn count_before(alloc: Global, size: u32, span: Span, d: u8) -> Result<Expr, AllocError>
+    ensures { IfOk result (λ e. expr_of e
+        ≡ axes.lesser (small_of span.n) (plain.Difference (plain.Number size) (plain.Variable d))) }
+{
+    let left = Expr::difference(alloc, Expr::Number(size), Expr::Variable(d))?;
+    lesser(alloc, span.n.expr(alloc)?, left)
+}
+
 /// Does something with the places before the end of an axis that goes round, and with those behind it.
 pub fn round<B: Body>(
     alloc: Global,
@@ -76,8 +85,6 @@ pub fn round<B: Body>(
 {
     let front = before_end(alloc, d, body)?;
     let both = Program::both(alloc, front, behind_end(alloc, span, d, body)?)?;
-    let left = Expr::difference(alloc, Expr::Number(size), Expr::Variable(d))?;
-    let before = lesser(alloc, span.n.expr(alloc)?, left)?;
-    let split = Program::with(alloc, before, both)?;
+    let split = Program::with(alloc, count_before(alloc, size, span, d)?, both)?;
     Program::with(alloc, first_source(alloc, size, by, span)?, split)
 }

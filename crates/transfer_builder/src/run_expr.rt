@@ -19,35 +19,52 @@ pub struct RunExpr {
     pub source_step: Expr,
 }
 
+/// So many steps behind the first: the number is in a register.
+fn further(alloc: Global, first: &Expr, step: &Expr, r: u8) -> Result<Expr, AllocError>
+    ensures { IfOk result (λ e. expr_of e
+        ≡ axes.plus (expr_of first.now) (axes.times (expr_of step.now) (plain.Variable r))) }
+{
+    let way = times(alloc, copy_of(alloc, step)?, Expr::Variable(r))?;
+    plus(alloc, copy_of(alloc, first)?, way)
+}
+
 /// The run's place whose number from 0 is in a register, as a run of its own.
 pub fn single_run(alloc: Global, run: &RunExpr, r: u8) -> Result<RunExpr, AllocError>
     ensures { IfOk result (λ one. run_of one ≡ axes.single_run (run_of run.now) (plain.Variable r)) }
 {
-    let way = times(alloc, copy_of(alloc, &run.step)?, Expr::Variable(r))?;
-    let source_way = times(alloc, copy_of(alloc, &run.source_step)?, Expr::Variable(r))?;
+    let first = further(alloc, &run.first, &run.step, r)?;
+    let source = further(alloc, &run.source, &run.source_step, r)?;
     Ok(RunExpr {
-        first: plus(alloc, copy_of(alloc, &run.first)?, way)?,
+        first,
         step: Expr::Number(1),
         count: Expr::Number(1),
-        source: plus(alloc, copy_of(alloc, &run.source)?, source_way)?,
+        source,
         source_step: Expr::Number(0),
     })
+}
+
+/// The first expression where the flag is 0, else the second; both are lent.
+fn pick_copy(alloc: Global, flag: SmallExpr, x: &Expr, y: &Expr) -> Result<Expr, AllocError>
+    ensures { IfOk result (λ r. expr_of r ≡ axes.pick (small_of flag) (expr_of x.now) (expr_of y.now)) }
+{
+    let x = copy_of(alloc, x)?;
+    pick(alloc, flag, x, copy_of(alloc, y)?)
 }
 
 /// The first run where the flag is 0, else the second.
 pub fn pick_run(
     alloc: Global,
     flag: SmallExpr,
-    x: RunExpr,
-    y: RunExpr,
+    x: &RunExpr,
+    y: &RunExpr,
 ) -> Result<RunExpr, AllocError>
-    ensures { IfOk result (λ run. run_of run ≡ axes.pick_run (small_of flag) (run_of x) (run_of y)) }
+    ensures { IfOk result (λ run. run_of run ≡ axes.pick_run (small_of flag) (run_of x.now) (run_of y.now)) }
 {
     Ok(RunExpr {
-        first: pick(alloc, flag, x.first, y.first)?,
-        step: pick(alloc, flag, x.step, y.step)?,
-        count: pick(alloc, flag, x.count, y.count)?,
-        source: pick(alloc, flag, x.source, y.source)?,
-        source_step: pick(alloc, flag, x.source_step, y.source_step)?,
+        first: pick_copy(alloc, flag, &x.first, &y.first)?,
+        step: pick_copy(alloc, flag, &x.step, &y.step)?,
+        count: pick_copy(alloc, flag, &x.count, &y.count)?,
+        source: pick_copy(alloc, flag, &x.source, &y.source)?,
+        source_step: pick_copy(alloc, flag, &x.source_step, &y.source_step)?,
     })
 }

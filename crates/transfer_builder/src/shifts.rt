@@ -47,16 +47,23 @@ pub fn some_places<B: Body>(
     Program::with(alloc, places.count, guarded)
 }
 
+/// The place `way` further on than an axis' first.
+fn later_place(alloc: Global, way: u32, span: Span) -> Result<Expr, AllocError>
+    ensures { IfOk result (λ e. expr_of e ≡ plain.Offset (small_of span.start) way) }
+{
+    Expr::offset(alloc, span.start.expr(alloc)?, way)
+}
+
 /// How many places of an axis come from places `way` further on, of `size` places.
 fn count_later(alloc: Global, size: u32, way: u32, span: Span) -> Result<Expr, AllocError>
     ensures { IfOk result (λ e. expr_of e ≡ plain.IfLess (plain.Offset (small_of span.start) way) (plain.Number size)
         (axes.lesser (small_of span.n) (plain.Difference (plain.Number size) (plain.Offset (small_of span.start) way)))
         (plain.Number 0)) }
 {
-    let from = Expr::offset(alloc, span.start.expr(alloc)?, way)?;
-    let past = Expr::offset(alloc, span.start.expr(alloc)?, way)?;
+    let from = later_place(alloc, way, span)?;
     let left = Expr::difference(alloc, Expr::Number(size), from)?;
     let count = lesser(alloc, span.n.expr(alloc)?, left)?;
+    let past = later_place(alloc, way, span)?;
     Expr::if_less(alloc, past, Expr::Number(size), count, Expr::Number(0))
 }
 
@@ -74,10 +81,12 @@ fn later<B: Body>(
     ensures { IfOk result (λ p. program_of p
         ≡ reads.later_axis size way (small_of span.start) (small_of span.n) d (B.made body.now)) }
 {
+    let count = count_later(alloc, size, way, span)?;
+    let source = later_place(alloc, way, span)?;
     let places = Places {
         first: Expr::Number(0),
-        count: count_later(alloc, size, way, span)?,
-        source: Expr::offset(alloc, span.start.expr(alloc)?, way)?,
+        count,
+        source,
     };
     some_places(alloc, places, d, body)
 }

@@ -70,6 +70,13 @@ pub fn lesser(alloc: Global, a: Expr, b: Expr) -> Result<Expr, AllocError>
     Expr::if_less(alloc, a, b, x, y)
 }
 
+/// So many times the expression, which is lent.
+pub fn scaled_copy(alloc: Global, e: &Expr, n: u32) -> Result<Expr, AllocError>
+    ensures { IfOk result (λ r. expr_of r ≡ axes.scaled (expr_of e.now) n) }
+{
+    scaled(alloc, copy_of(alloc, e)?, n)
+}
+
 /// The first where the flag is 0, else the second.
 pub fn pick(alloc: Global, flag: SmallExpr, x: Expr, y: Expr) -> Result<Expr, AllocError>
     ensures { IfOk result (λ r. expr_of r ≡ axes.pick (small_of flag) (expr_of x) (expr_of y)) }

@@ -56,5 +56,6 @@ pub fn write_program(
     ensures { IfOk result (λ p. program_of p ≡ plan.write_program to.now (piece_of piece) (target_of target) d) }
 {
     let sides = sides_of_array(to, piece.w, target);
-    patch_program(alloc, true, sides, whole_expr(alloc, to.shape, piece)?, d)
+    let patch = whole_expr(alloc, to.shape, piece)?;
+    patch_program(alloc, true, sides, &patch, d)
 }

@@ -23,7 +23,7 @@ use Rattle.dma_segments.specs.Run.{neighbours, some_places, shifted_runs, round_
 use Rattle.dma_segments.specs.Patch.{has_adjacent_sources, with_rows_joined, source_of_both, line, cross, row_lines, row_lines_from, lines, crosses, patches_of, read_patches}
 use Rattle.dma_segments.specs.ReadList.{fill_from, fills_of, sides_of}
 use Rattle.dma_segments.proofs.Lists.{Each, each_append}
-use Rattle.vector_codegen.specs.TileList.{fill_work}
+use Rattle.dma_segments.specs.FillWork.{fill_work}
 use Rattle.host_programs.specs.Expr.{Expr, Number, Variable, Difference, value, is_below}
 use Rattle.host_programs.specs.ExprLaws.{Agree}
 use Rattle.host_programs.specs.Program.{list_by}

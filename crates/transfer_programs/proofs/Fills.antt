@@ -10,7 +10,7 @@ use Rattle.dma_segments.specs.declared.patches.Patch.{Patch}
 use Rattle.dma_segments.specs.declared.patches.Sides.{Sides}
 use Rattle.dma_segments.specs.Patch.{with_rows_joined}
 use Rattle.dma_segments.specs.ReadList.{fill_at}
-use Rattle.vector_codegen.specs.TileList.{fill_work}
+use Rattle.dma_segments.specs.FillWork.{fill_work}
 use Rattle.host_programs.specs.Expr.{Expr, Number, Offset, Sum, Difference, value, is_below}
 use Rattle.host_programs.specs.ExprLaws.{Agree}
 use Rattle.host_programs.specs.Program.{list_by}

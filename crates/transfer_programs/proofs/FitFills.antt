@@ -15,7 +15,7 @@ use Rattle.venice_isa.specs.Host.{with_number}
 use Rattle.pass_plan.specs.declared.leaf.Leaf.{Leaf}
 use Rattle.pass_plan.specs.Tile.{IsPieceOf}
 use Rattle.dma_segments.proofs.Bytes.{some_bytes}
-use Rattle.vector_codegen.specs.Work.{word_of}
+use Rattle.dma_segments.specs.FillWork.{word_of}
 use Rattle.host_programs.specs.Expr.{Expr, Number, Variable, Offset, Sum, Difference, Product, IfLess, value, Fits, is_below}
 use Rattle.host_programs.specs.ExprLaws.{Agree}
 use Rattle.host_programs.specs.ProgramFits.{FitsWord, OrderFits, ProgramFits}

@@ -11,7 +11,7 @@ use Rattle.venice_isa.specs.declared.work.DmaWork.{DmaWork}
 use Rattle.venice_isa.specs.Host.{with_number}
 use Rattle.pass_plan.specs.declared.leaf.Leaf.{Leaf}
 use Rattle.pass_plan.specs.declared.split.ArrayPlace.{ArrayPlace}
-use Rattle.vector_codegen.specs.Kind.{move_kind}
+use Rattle.dma_segments.specs.FillWork.{move_kind}
 use Rattle.host_programs.specs.Expr.{Number, Variable, value}
 use Rattle.host_programs.specs.Program.{list_by}
 use Rattle.transfer_programs.specs.ReadProgram.{PieceExpr, Target, leaf_program, write_program}

@@ -4,7 +4,7 @@ use Rattle.venice_isa.specs.declared.issue.Issue.TheVariants.{Vector}
 use Rattle.pass_plan.specs.declared.leaf.Leaf.{Leaf}
 use Rattle.pass_plan.specs.declared.split.ArrayPlace.{ArrayPlace}
 use Rattle.dma_segments.specs.ReadList.{read_list}
-use Rattle.vector_codegen.specs.TileList.{fill_work}
+use Rattle.dma_segments.specs.FillWork.{fill_work}
 use Rattle.host_programs.specs.Expr.{Expr, value, is_below}
 use Rattle.host_programs.specs.Program.{list_by}
 use Rattle.host_programs.specs.ProgramCode.{is_closed}

@@ -7,8 +7,7 @@ use Rattle.ven_base.specs.declared.mapping.Mapping.TheVariants.{Shift}
 use Rattle.ven_base.specs.Elem.{size_of}
 use Rattle.ven_base.specs.Extent.{Extent}
 use Rattle.pass_plan.specs.declared.leaf.Leaf.{Leaf}
-use Rattle.vector_codegen.specs.Kind.{move_kind}
-use Rattle.vector_codegen.specs.Work.{word_of}
+use Rattle.dma_segments.specs.FillWork.{move_kind, word_of}
 use Rattle.host_programs.specs.Expr.{Expr, Number, Variable, Offset, Sum, Difference, Product, IfLess}
 use Rattle.host_programs.specs.Program.{Order, IssueVector, Program, Idle, Emit, Both, UnlessLess, Let}
 use Rattle.transfer_programs.specs.Axis.{scaled, times, plus, lesser}

@@ -20,16 +20,8 @@ use Rattle.venice_isa.proofs.Wholes.{part_at, size_positive}
 use Rattle.venice_isa.proofs.Spellings.{bytes_spell, one_spelling}
 use Rattle.pass_plan.specs.Buffers.{byte_of_value}
 use Rattle.dma_segments.specs.Effect.{HasByte}
+use Rattle.dma_segments.proofs.Values.{low_byte}
 use Rattle.vector_codegen.proofs.Held.{Spells}
-
--- byte b of a number, the lowest first
-low_byte : (count n b : ℕ) → b < count → get_or (low_bytes count n) b 0 ≡ (n / (256 ^ b)) % 256
-low_byte zero n b below = absurd (omega arith)
-low_byte (suc count) n zero below = ap (λ m. m % 256) (sym (div-one n))
-low_byte (suc count) n (suc b) below =
-    low_byte count (n / 256) b (omega arith)
-    ∙ ap (λ m. m % 256) (div-div-eq-div-mul n 256 (256 ^ b))
-    ∙ ap (λ m. (n / m) % 256) (sym (pow-succ' 256 b))
 
 -- ---- a byte in cells
 

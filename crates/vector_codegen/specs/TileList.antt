@@ -8,23 +8,9 @@ use Rattle.pass_plan.specs.Pass.{Pass}
 use Rattle.pass_plan.specs.Buffers.{is_map, buffer_bytes, output_half, piece_rows, piece_columns, begins_row}
 use Rattle.buffer_lifetimes.specs.Step.{Step}
 use Rattle.dma_segments.specs.declared.segments.Fill.{Fill}
-use Rattle.vector_codegen.specs.Kind.{move_kind}
-use Rattle.vector_codegen.specs.Work.{Shape, flat, word_of, Buffers, slot_buffer, step_work}
+pub use Rattle.dma_segments.specs.FillWork.{fill_work}
+use Rattle.vector_codegen.specs.Work.{Shape, flat, Buffers, slot_buffer, step_work}
 use Rattle.vector_codegen.specs.Root.{root_works}
-
--- a fill is a move of its number
-abbrev pub fill_work : Fill → VecWork
-fill_work fill = record {
-  kind = move_kind fill.elem true false;
-  vl = fill.cols;
-  rows = fill.rows;
-  dst = fill.at;
-  a = word_of fill.value;
-  b = 0;
-  dst_step = fill.step;
-  a_step = 0;
-  b_step = 0;
-}
 
 -- one instruction for each step before the last, and these for the last
 abbrev pub works_with : (Step → List VecWork) → Shape → Buffers → List Step → List VecWork

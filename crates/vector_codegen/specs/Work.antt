@@ -1,6 +1,5 @@
 -- Buffers by number, and the vector instruction of each step of an order over them.
-use Rattle.std.specs.Prelude.{ℕ, ◌+◌, ◌*◌, ◌^◌, ℤ, pos, negsuc, unsigned_abs, Bool, true, false, List, [], ◌∷◌, map, if◌then◌else◌}
-use Rattle.std.specs.Int.{int_rem_euclid}
+use Rattle.std.specs.Prelude.{ℕ, ◌+◌, ◌*◌, pos, negsuc, Bool, true, false, List, [], ◌∷◌, map, if◌then◌else◌}
 use Rattle.ven_base.specs.declared.elem.Elem.{Elem}
 use Rattle.ven_base.specs.declared.ops.Op1.TheVariants as op1
 use Rattle.ven_base.specs.declared.ops.Op2.{Op2}
@@ -17,6 +16,7 @@ pub use Rattle.vector_codegen.specs.declared.buffers.Source.{Source}
 pub use Rattle.vector_codegen.specs.declared.buffers.Source.TheVariants.{Buffer, Scalar}
 pub use Rattle.vector_codegen.specs.declared.buffers.Shape.{Shape}
 pub use Rattle.vector_codegen.specs.declared.buffers.Buffers.{Buffers}
+pub use Rattle.dma_segments.specs.FillWork.{word_of}
 use Rattle.vector_codegen.specs.Kind.{is_turned, two_kind, move_kind, abs_kind, cast_kind, conditional_kind}
 
 -- a source is a buffer or one number; a shape is that of buffers of so many bytes, each with rows of so many elements
@@ -27,10 +27,6 @@ flat shape = record { room = shape.room; rows = 1; cols = shape.rows * shape.col
 
 abbrev pub column_of : Shape → Shape
 column_of shape = record { room = shape.room; rows = 1; cols = shape.rows }
-
--- a number as a parameter of 32 bits
-abbrev pub word_of : ℤ → ℕ
-word_of n = unsigned_abs (int_rem_euclid n (pos (2 ^ 32)))
 
 abbrev pub parameter_of : (room : ℕ) → Source → ℕ
 parameter_of room (Buffer buffer) = buffer * room

@@ -1,8 +1,9 @@
 //! The buffers of a tile by number (docs/COMPILER.md, "Instructions of a tile").
 use buffer_lifetimes::Operand;
+use dma_segments::word_of;
 
 /// Where an operand's values are.
-#[derive(Clone, Copy, Debug, PartialEq, Eq)]
+#[derive(Clone, Copy)]
 pub enum Source {
     /// In the buffer with this number.
     Buffer(u32),
@@ -11,7 +12,7 @@ pub enum Source {
 }
 
 /// The elements of a buffer of `room` bytes: `rows` rows of `cols` elements that follow one another without gaps.
-#[derive(Clone, Copy, Debug, PartialEq, Eq)]
+#[derive(Clone, Copy)]
 pub struct Shape {
     pub room: u32,
     pub rows: u32,
@@ -20,7 +21,7 @@ pub struct Shape {
 
 /// The buffers of a pass, numbered from 0: two halves for each leaf, the slots, two output halves and, in a reduction,
 /// the partial result; with the halves that the tile works on.
-#[derive(Clone, Copy, Debug, PartialEq, Eq)]
+#[derive(Clone, Copy)]
 pub struct Buffers {
     pub leaves: u32,
     pub slots: u32,
@@ -31,7 +32,7 @@ pub struct Buffers {
 
 impl Source {
     ghost use Rattle.std.specs.Prelude.{◌≡◌};
-    ghost use Rattle.vector_codegen.specs.Work.{word_of, parameter_of, is_scalar};
+    ghost use Rattle.vector_codegen.specs.Work.{parameter_of, is_scalar};
     ghost use Rattle.vector_codegen.specs.Fit.{buffer_count, FitsSource};
 
     /// Whether the values are one number.
@@ -51,16 +52,6 @@ impl Source {
             Source::Scalar(n) => word_of(n),
         }
     }
-}
-
-ghost use Rattle.std.specs.Prelude.{◌≡◌};
-ghost use Rattle.vector_codegen.specs.Work.{word_of};
-
-/// A number's low 32 bits.
-pub fn word_of(n: i64) -> u32
-    ensures { result ≡ word_of n }
-{
-    n.rem_euclid(4_294_967_296) as u32
 }
 
 impl Shape {

@@ -22,12 +22,10 @@ mod buffers;
 mod laws;
 mod reductions;
 mod step_works;
-#[cfg(test)]
-mod tests;
 mod tile_list;
 mod vector_kind;
 
-pub use buffers::word_of;
+pub use dma_segments::{move_kind, word_of};
 pub use laws::{fill_laws, tile_laws, worked_rows};
 pub use tile_list::tile_ops;
-pub use vector_kind::{abs_kind, cast_kind, conditional_kind, is_turned, move_kind, two_kind};
+pub use vector_kind::{abs_kind, cast_kind, conditional_kind, is_turned, two_kind};

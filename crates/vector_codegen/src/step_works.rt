@@ -8,8 +8,9 @@ ghost use Rattle.vector_codegen.specs.Work as spec;
 ghost use Rattle.vector_codegen.specs.Fit.{buffer_count, IsFitting, FitsSource, IsArgOf, IsStepOf};
 
 use crate::buffers::{Buffers, Shape, Source};
-use crate::vector_kind::{abs_kind, cast_kind, conditional_kind, is_turned, move_kind, two_kind};
+use crate::vector_kind::{abs_kind, cast_kind, conditional_kind, is_turned, two_kind};
 use buffer_lifetimes::{EvalStep, Operand};
+use dma_segments::move_kind;
 use pass_plan::TreeOp;
 use ven_base::{Elem, Op1, Op2};
 use venice_isa::{VecKind, VecWork};

@@ -10,35 +10,17 @@ ghost use Rattle.vector_codegen.specs.TileList as spec;
 ghost use Rattle.vector_codegen.specs.Effect.{IsSoundSomewhere, IsTileNumber, IsOrderOf, AreTileFills, LeaveResults, KeepsToTile, AreFew};
 ghost use Rattle.vector_codegen.specs.Fit.{IsFitting, IsStepOf};
 
-use crate::buffers::{Buffers, Shape, word_of};
+use crate::buffers::{Buffers, Shape};
 use crate::reductions::push_root;
 use crate::step_works::step_work;
-use crate::vector_kind::move_kind;
 use buffer_lifetimes::{Assigned, EvalStep};
-use dma_segments::Fill;
+use dma_segments::{Fill, fill_work};
 use pass_plan::parts::Tile;
 use pass_plan::{Pass, PassKind, piece, tiles_per_row, widest};
 use std::alloc::{AllocError, Global};
 use venice_isa::VecWork;
 
 // ---- a list for any shape and buffers
-
-/// A fill is a move of its number.
-fn fill_work(fill: &Fill) -> VecWork
-    ensures { result ≡ spec.fill_work fill.now }
-{
-    VecWork {
-        kind: move_kind(fill.elem, true, false),
-        vl: fill.cols,
-        rows: fill.rows,
-        dst: fill.at,
-        a: word_of(fill.value),
-        b: 0,
-        dst_step: fill.step,
-        a_step: 0,
-        b_step: 0,
-    }
-}
 
 /// The instructions of fills, in their order.
 fn push_fills(fills: &[Fill], works: &mut Vec<VecWork>) -> Result<(), AllocError>

@@ -50,20 +50,6 @@ pub fn two_kind(op: Op2, elem: Elem, a_scalar: bool, b_scalar: bool, acc: bool) 
     }
 }
 
-/// A move of A.
-pub fn move_kind(elem: Elem, a_scalar: bool, acc: bool) -> VecKind
-    ensures { result ≡ spec.move_kind elem a_scalar acc }
-{
-    VecKind {
-        op: VecOp::Mov,
-        elem,
-        from: elem,
-        a_scalar,
-        b_scalar: false,
-        acc,
-    }
-}
-
 /// The magnitude of A.
 pub fn abs_kind(elem: Elem, a_scalar: bool, acc: bool) -> VecKind
     ensures { result ≡ spec.abs_kind elem a_scalar acc }

@@ -11,3 +11,4 @@ pub mod Operations
 pub mod Grids
 pub mod Made
 pub mod Jobs
+pub mod Exchange

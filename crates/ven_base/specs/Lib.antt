@@ -1,4 +1,6 @@
 pub mod Elem
+pub mod ElemWord
+pub mod Limits
 pub mod Wrap
 pub mod Name
 pub mod Stored
@@ -14,4 +16,6 @@ pub mod Pairs
 pub mod Cell
 pub mod Store
 pub mod Job
+pub mod Beats
+pub mod Exchange
 pub mod Laws

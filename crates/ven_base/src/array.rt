@@ -9,7 +9,7 @@ use std::marker::Model;
 
 /// An array: one value for each element of its shape, row by row from row 0 and column 0 on, each in the range of its
 /// type.
-#[derive(Debug, Drop)]
+#[derive(Drop)]
 pub struct Array {
     pub elem: Elem,
     pub shape: Shape,

@@ -20,6 +20,7 @@ pub enum Elem {
 
 impl Elem {
     ghost use Rattle.ven_base.specs.Elem.{size_of, width_of, modulus_of, least_of, IsElement};
+    ghost use Rattle.ven_base.specs.ElemWord.{elem_word, elem_named};
 
     /// The size of an element in bytes: 1, 2 or 4.
     pub fn size(self) -> u32
@@ -81,5 +82,40 @@ impl Elem {
         ensures { IsTrue result ↔ IsElement self n }
     {
         self.least() <= n && n < self.end()
+    }
+
+    /// The type's word: `u8`, `i8` and so on.
+    pub fn word(self) -> &'static [u8]
+        ensures { result.now ≡ elem_word self }
+    {
+        match self {
+            Elem::U8 => b"u8",
+            Elem::I8 => b"i8",
+            Elem::U16 => b"u16",
+            Elem::I16 => b"i16",
+            Elem::U32 => b"u32",
+            Elem::I32 => b"i32",
+        }
+    }
+
+    /// The type whose word these bytes are, if they are one's.
+    pub fn from_word(bytes: &[u8]) -> Option<Elem>
+        ensures { result ≡ elem_named bytes.now }
+    {
+        if bytes == Elem::U8.word() {
+            Some(Elem::U8)
+        } else if bytes == Elem::I8.word() {
+            Some(Elem::I8)
+        } else if bytes == Elem::U16.word() {
+            Some(Elem::U16)
+        } else if bytes == Elem::I16.word() {
+            Some(Elem::I16)
+        } else if bytes == Elem::U32.word() {
+            Some(Elem::U32)
+        } else if bytes == Elem::I32.word() {
+            Some(Elem::I32)
+        } else {
+            None
+        }
     }
 }

@@ -3,7 +3,7 @@ use crate::{Elem, Name, Shape};
 
 /// An array of an image's memory: its name, whether it is an output, its type and shape, and its first byte's place,
 /// which counts bytes from 0.
-#[derive(Clone, Copy, Debug, PartialEq, Eq, Hash)]
+#[derive(Clone, Copy)]
 pub struct Entry {
     pub name: Name,
     pub output: bool,

@@ -1,7 +1,7 @@
 //! The operations and reductions of the array language (docs/LANGUAGE.md, "Operations").
 
 /// An operation on one number. What it computes of a whole number wraps into the type.
-#[derive(Clone, Copy, Debug, PartialEq, Eq, Hash)]
+#[derive(Clone, Copy, Debug, PartialEq, Eq)]
 pub enum Op1 {
     /// `-x`: 0 less x.
     Neg,
@@ -13,7 +13,7 @@ pub enum Op1 {
 
 /// An operation on two numbers of one type. What it computes of whole numbers wraps into the type, but for the
 /// saturating sum and difference, which give the number of the type's range that is nearest.
-#[derive(Clone, Copy, Debug, PartialEq, Eq, Hash)]
+#[derive(Clone, Copy, Debug, PartialEq, Eq)]
 pub enum Op2 {
     /// `x + y`.
     Add,
@@ -54,7 +54,7 @@ pub enum Op2 {
 }
 
 /// What a reduction makes of the values of a row or of a whole array, of which there is at least one.
-#[derive(Clone, Copy, Debug, PartialEq, Eq, Hash)]
+#[derive(Clone, Copy, Debug, PartialEq, Eq)]
 pub enum Fold {
     /// Their sum, wrapped into the type.
     Sum,

@@ -8,7 +8,7 @@ use std::alloc::Global;
 use thiserror::Error;
 
 /// Why a load gave nothing: the files tell that the name isn't there, a read failed, or memory ran out.
-#[derive(Clone, Copy, Debug, PartialEq, Eq, Error)]
+#[derive(Clone, Copy, Debug, Error)]
 pub enum LoadFault {
     /// The files tell that they hold no file of that name.
     #[error("missing")]

@@ -55,8 +55,3 @@ pub use mem_sink::MemSink;
 pub use numbers::{NumberFault, number};
 pub use sink::{OutFault, Sink};
 pub use token::{Token, TokenFault, TokenKind};
-
-#[cfg(test)]
-mod outside_tests;
-#[cfg(test)]
-mod text_tests;

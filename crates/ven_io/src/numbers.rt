@@ -10,7 +10,7 @@ use crate::runs::{Run, run_end};
 use thiserror::Error;
 
 /// Why a text is no number (docs/LANGUAGE.md, "Numbers").
-#[derive(Clone, Copy, Debug, PartialEq, Eq, Error)]
+#[derive(Clone, Copy, Debug, Error)]
 pub enum NumberFault {
     /// No byte stands in a digit's place: the text is empty, or `0x`.
     #[error("no digit")]

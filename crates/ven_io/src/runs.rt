@@ -7,7 +7,7 @@ ghost use Rattle.ven_io.specs.Runs.{is_in_run, IsRun};
 use ven_base::{is_digit, is_name_byte};
 
 /// A sort of bytes that the scan passes over together.
-#[derive(Clone, Copy, Debug, PartialEq, Eq)]
+#[derive(Clone, Copy)]
 pub(crate) enum Run {
     Blanks,
     Comment,

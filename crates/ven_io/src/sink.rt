@@ -7,7 +7,7 @@ ghost use Rattle.ven_io.specs.Sink.{SinkState, Puts};
 use thiserror::Error;
 
 /// Why a save or a put wasn't done: a write failed, or memory ran out.
-#[derive(Clone, Copy, Debug, PartialEq, Eq, Error)]
+#[derive(Clone, Copy, Debug, Error)]
 pub enum OutFault {
     /// A write failed, and is counted; a part may be written.
     #[error("failed")]

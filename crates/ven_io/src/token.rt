@@ -3,7 +3,7 @@
 use thiserror::Error;
 
 /// What a token is (docs/LANGUAGE.md, "Tokens"). `End` is the text's end, which has no bytes.
-#[derive(Clone, Copy, Debug, PartialEq, Eq)]
+#[derive(Clone, Copy, PartialEq)]
 pub enum TokenKind {
     Name,
     Number,
@@ -13,7 +13,7 @@ pub enum TokenKind {
 }
 
 /// A token, as the bytes of the text from `start` up to `end`, places in bytes from 0.
-#[derive(Clone, Copy, Debug, PartialEq, Eq)]
+#[derive(Clone, Copy)]
 pub struct Token {
     pub kind: TokenKind,
     pub start: u32,
@@ -21,7 +21,7 @@ pub struct Token {
 }
 
 /// Why no token is read at the place `at`, in bytes from 0.
-#[derive(Clone, Copy, Debug, PartialEq, Eq, Error)]
+#[derive(Clone, Copy, Debug, Error)]
 pub enum TokenFault {
     /// The byte is above 127; in a comment too.
     #[error("byte {at} is not ASCII")]

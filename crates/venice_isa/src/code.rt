@@ -8,7 +8,7 @@ use std::marker::Model;
 
 /// Instructions of one version, which the host runs from the first one on: at least one and fewer than 4,294,967,296, of which
 /// the last is `Halt`, and none goes to a place outside. So the host's place never leaves them.
-#[derive(Debug, Drop)]
+#[derive(Drop)]
 pub struct Code {
     pub version: Version,
     pub instrs: Vec<Instr>,
@@ -78,34 +78,5 @@ fn has_target_below(instr: Instr, end: u32) -> bool
     match instr.target() {
         Some(to) => to < end,
         None => true,
-    }
-}
-
-#[cfg(test)]
-mod tests {
-    use super::*;
-    use std::test::Fail;
-
-    #[test]
-    fn instructions_that_are_no_code(rt: HostRuntime) -> Result<(), Fail> {
-        let table: [(Version, &[Instr], bool); 8] = [
-            (Version::One, &[], false),
-            (Version::One, &[Instr::Halt], true),
-            (Version::One, &[Instr::Halt, Instr::Vwait], false),
-            (Version::One, &[Instr::Jmp { to: 1 }, Instr::Halt], true),
-            (Version::One, &[Instr::Jmp { to: 2 }, Instr::Halt], false),
-            (
-                Version::One,
-                &[Instr::Li { d: 32, n: 0 }, Instr::Halt],
-                false,
-            ),
-            (Version::One, &[Instr::Tag { a: 0 }, Instr::Halt], false),
-            (Version::Two, &[Instr::Tag { a: 0 }, Instr::Halt], true),
-        ];
-        for (version, instrs, want) in table {
-            let code = Code::new(version, Vec::from_slice(rt.alloc(), instrs)?);
-            assert_eq!(rt; code.is_some(), want, "{instrs:?}");
-        }
-        Ok(())
     }
 }

@@ -16,7 +16,7 @@ use crate::op::VecOp;
 use ven_base::Elem;
 
 /// Why eight bytes are no instruction.
-#[derive(Clone, Copy, Debug, PartialEq, Eq)]
+#[derive(Clone, Copy)]
 pub enum InstrFault {
     /// No instruction of the version has this code.
     BadOpcode,
@@ -25,7 +25,7 @@ pub enum InstrFault {
 }
 
 /// The fields of an instruction: its code, its bytes 1 to 3, and the number in bytes 4 to 7.
-#[derive(Clone, Copy, Debug, PartialEq, Eq)]
+#[derive(Clone, Copy)]
 pub(crate) struct Fields {
     pub code: u8,
     pub byte1: u8,
@@ -238,155 +238,4 @@ fn type_number(elem: Elem) -> u8
     ensures { result ≡ type_number elem }
 {
     elem as u8
-}
-
-#[cfg(test)]
-mod tests {
-    use super::*;
-    use Elem::{I8, I16, U8, U16, U32};
-    use InstrFault::{BadField, BadOpcode};
-    use Version::{One, Two};
-    use std::process::Abort;
-
-    fn kind(rt: &impl Abort, op: VecOp, types: (Elem, Elem), mode: (bool, bool, bool)) -> Instr {
-        let kind = VecKind::new(op, types.0, types.1, mode.0, mode.1, mode.2);
-        Instr::Vec(kind.expect(rt, "a mode of the operation"))
-    }
-
-    #[test]
-    fn each_instruction_has_its_bytes(rt: HostRuntime) {
-        let table = [
-            (One, Instr::Halt, [0, 0, 0, 0, 0, 0, 0, 0]),
-            (One, Instr::Li { d: 1, n: 5 }, [1, 1, 0, 0, 5, 0, 0, 0]),
-            (
-                One,
-                Instr::Addi {
-                    d: 31,
-                    a: 2,
-                    n: 0x0403_0201,
-                },
-                [2, 31, 2, 0, 1, 2, 3, 4],
-            ),
-            (
-                One,
-                Instr::Add { d: 1, a: 2, b: 3 },
-                [3, 1, 2, 3, 0, 0, 0, 0],
-            ),
-            (
-                One,
-                Instr::Sub { d: 4, a: 5, b: 6 },
-                [4, 4, 5, 6, 0, 0, 0, 0],
-            ),
-            (
-                One,
-                Instr::Mul { d: 7, a: 8, b: 9 },
-                [5, 7, 8, 9, 0, 0, 0, 0],
-            ),
-            (
-                One,
-                Instr::Div {
-                    d: 10,
-                    a: 11,
-                    b: 12,
-                },
-                [6, 10, 11, 12, 0, 0, 0, 0],
-            ),
-            (
-                One,
-                Instr::Bnz { a: 13, to: 256 },
-                [7, 0, 13, 0, 0, 1, 0, 0],
-            ),
-            (
-                One,
-                Instr::Blt {
-                    a: 14,
-                    b: 15,
-                    to: 7,
-                },
-                [8, 0, 14, 15, 7, 0, 0, 0],
-            ),
-            (
-                One,
-                Instr::Jmp { to: u32::MAX },
-                [9, 0, 0, 0, 255, 255, 255, 255],
-            ),
-            (
-                One,
-                Instr::Set { field: 13, a: 16 },
-                [10, 13, 16, 0, 0, 0, 0, 0],
-            ),
-            (
-                One,
-                kind(&rt, VecOp::Add, (U8, U8), (false, true, false)),
-                [11, 2, 2, 0, 0, 0, 0, 0],
-            ),
-            (
-                One,
-                kind(&rt, VecOp::Cast, (U16, I8), (true, false, true)),
-                [11, 1, 5, 0x12, 0, 0, 0, 0],
-            ),
-            (
-                One,
-                kind(&rt, VecOp::Cmov, (U32, U32), (true, false, false)),
-                [11, 17, 1, 4, 0, 0, 0, 0],
-            ),
-            (
-                Two,
-                kind(&rt, VecOp::Sadd, (U8, U8), (false, false, false)),
-                [11, 18, 0, 0, 0, 0, 0, 0],
-            ),
-            (
-                Two,
-                kind(&rt, VecOp::Ssub, (I16, I16), (true, true, true)),
-                [11, 19, 7, 3, 0, 0, 0, 0],
-            ),
-            (One, Instr::Dma { write: false }, [12, 0, 0, 0, 0, 0, 0, 0]),
-            (One, Instr::Dma { write: true }, [12, 1, 0, 0, 0, 0, 0, 0]),
-            (One, Instr::Rwait { a: 17 }, [13, 0, 17, 0, 0, 0, 0, 0]),
-            (One, Instr::Wwait { a: 18 }, [14, 0, 18, 0, 0, 0, 0, 0]),
-            (One, Instr::Vwait, [15, 0, 0, 0, 0, 0, 0, 0]),
-            (Two, Instr::Tag { a: 3 }, [16, 0, 3, 0, 0, 0, 0, 0]),
-            (Two, Instr::Twait { a: 3 }, [17, 0, 3, 0, 0, 0, 0, 0]),
-        ];
-        for (version, instr, bytes) in table {
-            assert_eq!(rt; encode(&instr), bytes, "{instr:?}");
-            assert_eq!(rt; decode_in(version, bytes), Ok(instr), "{bytes:?}");
-            assert_eq!(rt; decode_in(Two, bytes), Ok(instr), "{bytes:?}");
-            assert_eq!(rt; decode(bytes).is_ok(), version == One, "{bytes:?}");
-        }
-    }
-
-    #[test]
-    fn the_first_byte_that_breaks_the_table(rt: HostRuntime) {
-        let table = [
-            (One, [16, 0, 3, 0, 0, 0, 0, 0], BadOpcode),
-            (One, [17, 0, 3, 0, 0, 0, 0, 0], BadOpcode),
-            (Two, [18, 0, 0, 0, 0, 0, 0, 0], BadOpcode),
-            (Two, [255, 255, 255, 255, 0, 0, 0, 0], BadOpcode),
-            (One, [0, 0, 0, 1, 0, 0, 0, 0], BadField { byte: 3 }),
-            (One, [0, 0, 0, 0, 0, 1, 0, 1], BadField { byte: 5 }),
-            (One, [0, 0, 0, 0, 0, 0, 0, 1], BadField { byte: 7 }),
-            (One, [1, 32, 0, 0, 5, 0, 0, 0], BadField { byte: 1 }),
-            (One, [1, 1, 1, 0, 5, 0, 0, 0], BadField { byte: 2 }),
-            (One, [3, 1, 2, 32, 1, 0, 0, 0], BadField { byte: 3 }),
-            (One, [7, 1, 32, 0, 0, 1, 0, 0], BadField { byte: 1 }),
-            (One, [10, 14, 32, 0, 0, 0, 0, 0], BadField { byte: 1 }),
-            (One, [11, 18, 0, 0, 0, 0, 0, 0], BadField { byte: 1 }),
-            (Two, [11, 20, 0, 0, 0, 0, 0, 0], BadField { byte: 1 }),
-            (One, [11, 2, 8, 0, 0, 0, 0, 0], BadField { byte: 2 }),
-            (One, [11, 0, 2, 0, 0, 0, 0, 0], BadField { byte: 2 }),
-            (One, [11, 17, 4, 9, 0, 0, 0, 0], BadField { byte: 2 }),
-            (One, [11, 2, 7, 6, 0, 0, 0, 0], BadField { byte: 3 }),
-            (One, [11, 2, 7, 0x10, 0, 0, 0, 0], BadField { byte: 3 }),
-            (One, [11, 1, 5, 0x60, 0, 0, 0, 0], BadField { byte: 3 }),
-            (One, [11, 1, 5, 0x50, 1, 0, 0, 0], BadField { byte: 4 }),
-            (One, [12, 2, 0, 0, 0, 0, 0, 0], BadField { byte: 1 }),
-            (One, [15, 0, 1, 0, 0, 0, 0, 0], BadField { byte: 2 }),
-            (Two, [17, 0, 32, 0, 0, 0, 0, 0], BadField { byte: 2 }),
-        ];
-        for (version, bytes, fault) in table {
-            assert_eq!(rt; decode_in(version, bytes), Err(fault), "{bytes:?}");
-        }
-        assert!(rt; size_of::<Instr>() <= 16, "an instruction is a small value");
-    }
 }

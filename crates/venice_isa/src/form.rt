@@ -10,7 +10,7 @@ use crate::op::VecOp;
 use ven_base::Elem;
 
 /// What a byte of an instruction holds, behind its code.
-#[derive(Clone, Copy, Debug, PartialEq, Eq)]
+#[derive(Clone, Copy)]
 pub(crate) enum Part {
     Unused,
     Register,
@@ -23,7 +23,7 @@ pub(crate) enum Part {
 }
 
 /// A row of the instruction table: the version that the instruction came with, and what its bytes hold.
-#[derive(Clone, Copy, Debug, PartialEq, Eq)]
+#[derive(Clone, Copy)]
 pub(crate) struct Form {
     pub since: Version,
     pub byte1: Part,

@@ -11,7 +11,7 @@ use crate::work::{DmaWork, VecWork};
 
 /// What an instruction of the host is to the rest of the machine (docs/MACHINE.md, "The host"). Whether the host may go on is
 /// for the machine to say: an issue waits for a place in its queue, a wait for its condition, and a halt for all works' ends.
-#[derive(Clone, Copy, Debug, PartialEq, Eq, Hash)]
+#[derive(Clone, Copy)]
 pub enum Deed {
     /// It ends the run.
     Halts,

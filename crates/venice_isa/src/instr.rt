@@ -13,7 +13,7 @@ pub const PARAMETER_COUNT: u8 = 14;
 
 /// Which of the two instruction sets code is written in. The second has all of the first, tagged transfers, and the vector
 /// operations that saturate (docs/MACHINE.md, "Instructions").
-#[derive(Clone, Copy, Debug, PartialEq, Eq, Hash)]
+#[derive(Clone, Copy, Debug, PartialEq, Eq)]
 pub enum Version {
     One,
     Two,
@@ -21,7 +21,7 @@ pub enum Version {
 
 /// An instruction of the host (docs/MACHINE.md, "Instructions"). `d`, `a` and `b` are the numbers of registers, and `field`
 /// that of a parameter; `to` is a place in the code, which counts instructions from 0. Numbers wrap at 32 bits.
-#[derive(Clone, Copy, Debug, PartialEq, Eq, Hash)]
+#[derive(Clone, Copy)]
 pub enum Instr {
     /// Ends the run.
     Halt,

@@ -11,7 +11,7 @@ use ven_base::Elem;
 /// and of B, the type `from` of A, whether A or B is a scalar parameter, and whether the results of
 /// a row are added into one element. The mode is one that the operation allows, and `from` is `elem` unless
 /// the operation is `Cast` (docs/MACHINE.md, "Operations").
-#[derive(Clone, Copy, Debug, PartialEq, Eq, Hash)]
+#[derive(Clone, Copy, Debug, PartialEq, Eq)]
 pub struct VecKind {
     pub op: VecOp,
     pub elem: Elem,
@@ -64,30 +64,5 @@ impl VecKind {
         ensures some { 0 < result }
     {
         4 * lanes / self.elem.size().max(self.from.size())
-    }
-}
-
-#[cfg(test)]
-mod tests {
-    use super::*;
-
-    #[test]
-    fn refuses_modes_that_an_operation_lacks(rt: HostRuntime) {
-        let table = [
-            (VecOp::Add, Elem::U8, Elem::U8, true, true, true),
-            (VecOp::Add, Elem::U8, Elem::I8, false, false, false),
-            (VecOp::Cast, Elem::U8, Elem::I32, false, true, true),
-            (VecOp::Cast, Elem::U8, Elem::I32, true, false, false),
-            (VecOp::Mov, Elem::U8, Elem::U8, true, false, false),
-            (VecOp::Abs, Elem::I8, Elem::I8, true, false, false),
-            (VecOp::Eq, Elem::I8, Elem::I8, true, true, true),
-            (VecOp::Cmov, Elem::U16, Elem::U16, false, false, true),
-            (VecOp::Cmov, Elem::U16, Elem::U16, true, false, false),
-            (VecOp::Cmov, Elem::U16, Elem::U16, false, true, false),
-        ];
-        for (op, elem, from, b_scalar, acc, want) in table {
-            let kind = VecKind::new(op, elem, from, true, b_scalar, acc);
-            assert_eq!(rt; kind.is_some(), want, "{op:?} {b_scalar} {acc}");
-        }
     }
 }

@@ -67,24 +67,3 @@ pub fn next_beat_keeps_to_footprint()
 pub fn tests_decide()
     ensures { TestsDecide }
 {}
-
-#[cfg(test)]
-mod tests {
-    use super::*;
-
-    #[test]
-    fn laws_are_called() {
-        rows_apart_keep_elements_apart();
-        whole_writes_its_footprint();
-        whole_reads_its_footprint();
-        whole_is_determined();
-        read_copies_its_rows();
-        write_copies_its_rows();
-        bytes_spell_their_number();
-        numbers_have_one_spelling();
-        beats_are_the_whole();
-        beats_are_the_copy();
-        next_beat_keeps_to_footprint();
-        tests_decide();
-    }
-}

@@ -20,6 +20,7 @@ mod issue;
 mod issue_list;
 mod kind;
 mod laws;
+mod limits;
 mod meeting;
 mod op;
 mod region;
@@ -40,6 +41,7 @@ pub use laws::{
     rows_apart_keep_elements_apart, tests_decide, whole_is_determined, whole_reads_its_footprint,
     whole_writes_its_footprint, write_copies_its_rows,
 };
+pub use limits::{INSTRUCTION_LIMIT, TRANSFER_PLACES, VECTOR_PLACES};
 pub use meeting::conflict;
 pub use op::VecOp;
 pub use region::Region;

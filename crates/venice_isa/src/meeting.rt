@@ -12,7 +12,7 @@ use crate::work::{DmaWork, VecWork};
 
 /// Bytes that stand one after the other, from a place on; one byte at least. A number of bytes that doesn't fit is the
 /// greatest, which reaches past every place at which a row begins.
-#[derive(Clone, Copy, Debug)]
+#[derive(Clone, Copy)]
 pub(crate) struct Row {
     pub place: u64,
     pub bytes: u64,
@@ -20,7 +20,7 @@ pub(crate) struct Row {
 
 /// The rows of a region that are left, in the order of their places: the current one, how many with it, and how far it
 /// is to the next. Rows that stand without gaps, or overlap, are one row.
-#[derive(Clone, Copy, Debug)]
+#[derive(Clone, Copy)]
 pub(crate) struct Rows {
     pub row: Row,
     pub left: u32,
@@ -226,163 +226,5 @@ pub fn conflict(first: &Issue, second: &Issue) -> bool
         Issue::Read(read) => conflicts_with_read(read, second),
         Issue::Write(write) => conflicts_with_write(write, second),
         _ => false,
-    }
-}
-
-#[cfg(test)]
-mod tests {
-    use super::*;
-    use crate::kind::VecKind;
-    use crate::op::VecOp;
-    use std::test::Fail;
-    use ven_base::Elem;
-
-    fn region(place: u32, step: u32, size: u32, rows: u32, columns: u32) -> Region {
-        Region {
-            place,
-            step,
-            size,
-            rows,
-            columns,
-        }
-    }
-
-    #[test]
-    fn regions_that_share_a_byte(rt: HostRuntime) {
-        const TOP: u32 = u32::MAX;
-        let table = [
-            // Single rows that touch, and that stand one behind the other.
-            (region(0, 0, 1, 1, 4), region(3, 0, 4, 1, 1), true),
-            (region(0, 0, 1, 1, 4), region(4, 0, 4, 1, 1), false),
-            // Every second byte, against the others and against the last of them.
-            (region(0, 2, 1, 9, 1), region(1, 2, 1, 9, 1), false),
-            (region(0, 2, 1, 9, 1), region(1, 15, 1, 2, 1), true),
-            // Rows in the gaps of other rows, and the last row's end.
-            (region(0, 10, 1, 4, 5), region(5, 10, 1, 4, 5), false),
-            (region(0, 10, 1, 4, 5), region(5, 10, 1, 4, 6), true),
-            (region(0, 10, 1, 4, 5), region(35, 1, 1, 1, 9), false),
-            (region(0, 10, 1, 4, 6), region(35, 1, 1, 1, 9), true),
-            // Rows that overlap are one, and so are those that stand at one place.
-            (region(10, 3, 2, 4, 2), region(22, 7, 1, 9, 1), true),
-            (region(10, 3, 2, 4, 2), region(23, 7, 1, 9, 1), false),
-            (region(10, 0, 1, TOP, 2), region(11, 5, 1, TOP, 1), true),
-            // No bytes.
-            (region(0, 1, 1, 0, 4), region(0, 1, 1, 4, 4), false),
-            (region(0, 1, 1, 4, 0), region(0, 1, 1, 4, 4), false),
-            // The greatest places.
-            (
-                region(TOP, TOP, 4, TOP, TOP),
-                region(TOP, TOP, 4, TOP, TOP),
-                true,
-            ),
-            (
-                region(TOP, TOP, 4, 2, 1),
-                region(TOP - 4, TOP, 4, 3, 1),
-                false,
-            ),
-            (
-                region(TOP, TOP, 4, 2, 1),
-                region(TOP - 3, TOP, 4, 3, 1),
-                true,
-            ),
-        ];
-        for (first, second, want) in table {
-            assert_eq!(rt; meet(first, second), want, "{first:?} {second:?}");
-            assert_eq!(rt; meet(second, first), want, "{second:?} {first:?}");
-        }
-    }
-
-    #[test]
-    fn works_and_waits_that_conflict(rt: HostRuntime) -> Result<(), Fail> {
-        let kind = |op, a_scalar, b_scalar| {
-            VecKind::new(op, Elem::U8, Elem::U8, a_scalar, b_scalar, false)
-        };
-        let vector = |kind, dst, a, b| {
-            Issue::Vector(VecWork {
-                kind,
-                vl: 4,
-                rows: 1,
-                dst,
-                a,
-                b,
-                dst_step: 0,
-                a_step: 0,
-                b_step: 0,
-            })
-        };
-        let transfer = |mem, spad| DmaWork {
-            mem,
-            spad,
-            rows: 1,
-            bytes: 4,
-            mem_step: 0,
-            spad_step: 0,
-            tag: 0,
-        };
-        let add = kind(VecOp::Add, false, false).ok_or("a mode")?;
-        let add_scalars = kind(VecOp::Add, true, true).ok_or("a mode")?;
-        let abs = kind(VecOp::Abs, false, false).ok_or("a mode")?;
-        let read = |mem, spad| Issue::Read(transfer(mem, spad));
-        let write = |mem, spad| Issue::Write(transfer(mem, spad));
-        let table = [
-            (vector(add, 0, 10, 20), vector(add, 30, 0, 40), true),
-            (vector(add, 0, 10, 20), vector(add, 30, 10, 20), false),
-            (vector(add, 0, 10, 20), vector(add, 3, 40, 50), true),
-            (vector(add, 0, 10, 20), vector(add, 20, 40, 50), true),
-            (vector(add, 0, 10, 20), read(0, 13), true),
-            (vector(add, 0, 10, 20), read(0, 23), true),
-            (vector(add, 0, 10, 20), read(0, 24), false),
-            (vector(add_scalars, 0, 10, 20), read(0, 13), false),
-            (vector(abs, 0, 10, 20), read(0, 20), false),
-            (vector(add, 0, 10, 20), write(0, 10), false),
-            (vector(add, 0, 10, 20), write(0, 3), true),
-            (read(0, 0), read(0, 4), false),
-            (read(0, 0), read(8, 3), true),
-            (write(0, 0), write(4, 0), false),
-            (write(0, 0), write(3, 8), true),
-            (read(0, 0), write(4, 3), true),
-            (read(0, 0), write(3, 4), true),
-            (read(0, 0), write(4, 4), false),
-            (read(0, 0), Issue::RWait(0), false),
-            (Issue::VWait, Issue::TWait(0), false),
-        ];
-        for (first, second, want) in table {
-            assert_eq!(rt; conflict(&first, &second), want, "{first:?} {second:?}");
-            assert_eq!(rt; conflict(&second, &first), want, "{second:?} {first:?}");
-        }
-        Ok(())
-    }
-
-    #[test]
-    fn many_rows_against_many(rt: HostRuntime) -> Result<(), Fail> {
-        let kind = VecKind::new(VecOp::Mov, Elem::U8, Elem::U8, true, false, false);
-        let kind = kind.ok_or("a mode")?;
-        let every_second = |dst| {
-            Issue::Vector(VecWork {
-                kind,
-                vl: 1,
-                rows: 500_000,
-                dst,
-                a: 0,
-                b: 0,
-                dst_step: 2,
-                a_step: 0,
-                b_step: 0,
-            })
-        };
-        let read = Issue::Read(DmaWork {
-            mem: 0,
-            spad: 0,
-            rows: 500_000,
-            bytes: 1,
-            mem_step: 0,
-            spad_step: 2,
-            tag: 0,
-        });
-        for (dst, want) in [(1, false), (2, true), (999_998, true), (999_999, false)] {
-            assert_eq!(rt; conflict(&read, &every_second(dst)), want, "{dst}");
-            assert_eq!(rt; conflict(&every_second(dst), &read), want, "{dst}");
-        }
-        Ok(())
     }
 }

@@ -3,7 +3,7 @@
 /// An operation of the lanes, as docs/MACHINE.md ("Operations") says: what it answers at A and B. The answers are
 /// whole numbers that wrap into the results' type, but for the two saturating operations. A comparison sets the flags
 /// of an element where it answers 1; every other write clears them.
-#[derive(Clone, Copy, Debug, PartialEq, Eq, Hash)]
+#[derive(Clone, Copy, Debug, PartialEq, Eq)]
 pub enum VecOp {
     /// A.
     Mov,

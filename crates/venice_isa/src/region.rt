@@ -3,7 +3,7 @@
 /// Rows of elements, in cells or in memory (docs/MACHINE.md, "Cells and memory"). Row 0 begins at the byte `place`, and
 /// each row `step` bytes after the one before. In a row `columns` elements of `size` bytes stand one directly after the
 /// other. Any numbers may stand here: places don't wrap, rows may overlap, and with a count of 0 there are no bytes.
-#[derive(Clone, Copy, Debug, PartialEq, Eq, Hash)]
+#[derive(Clone, Copy)]
 pub struct Region {
     pub place: u32,
     pub step: u32,

@@ -51,26 +51,3 @@ impl Walk {
         self.next_place = self.row_place;
     }
 }
-
-#[cfg(test)]
-mod tests {
-    use super::*;
-
-    #[test]
-    fn a_walk_goes_by_groups_and_rows(rt: HostRuntime) {
-        let region = Region {
-            place: 10,
-            step: 100,
-            size: 2,
-            rows: 2,
-            columns: 5,
-        };
-        let mut walk = Walk::begin(region, 2);
-        assert_eq!(rt; (walk.row_place, walk.next_place), (10, 10));
-        walk.go_on();
-        walk.go_on();
-        assert_eq!(rt; (walk.row_place, walk.next_place), (10, 18));
-        walk.next_row();
-        assert_eq!(rt; (walk.row_place, walk.next_place), (110, 110));
-    }
-}

@@ -7,7 +7,7 @@ use crate::region::Region;
 /// row, and `rows` the rows. `dst`, `a` and `b` are cells, in which row 0 begins; a scalar's number stands in `a` or
 /// `b` itself. The steps count cells from one row's beginning to the next. Any numbers may stand here: a unit takes no
 /// work with a count of 0, and `is_in_range` says whether the cells suffice.
-#[derive(Clone, Copy, Debug, PartialEq, Eq, Hash)]
+#[derive(Clone, Copy, Debug, PartialEq, Eq)]
 pub struct VecWork {
     pub kind: VecKind,
     pub vl: u32,
@@ -24,7 +24,7 @@ pub struct VecWork {
 /// which row 0 begins; each of the `rows` rows has `bytes` bytes, and the steps count bytes from one row's beginning to
 /// the next on either side. The tag is what a `TWait` may name; it has no say in what the transfer does. Any numbers
 /// may stand here, as in a `VecWork`.
-#[derive(Clone, Copy, Debug, PartialEq, Eq, Hash)]
+#[derive(Clone, Copy, Debug, PartialEq, Eq)]
 pub struct DmaWork {
     pub mem: u32,
     pub spad: u32,
@@ -210,53 +210,5 @@ impl DmaWork {
         ensures { result ≡ transfer_beats self.now }
     {
         u64::from(self.rows) * u64::from(self.row_beats())
-    }
-}
-
-#[cfg(test)]
-mod tests {
-    use super::*;
-    use crate::op::VecOp;
-    use ven_base::Elem;
-
-    #[test]
-    fn rows_take_beats_of_their_own(rt: HostRuntime) {
-        let table = [
-            (VecOp::Mov, Elem::U8, Elem::U8, 7, 2, 1, 4),
-            (VecOp::Mov, Elem::U8, Elem::U8, 7, 2, 2, 2),
-            (VecOp::Add, Elem::U32, Elem::U32, 4, 1, 4, 1),
-            (VecOp::Add, Elem::U32, Elem::U32, 4, 1, 1, 4),
-            (VecOp::Cast, Elem::U8, Elem::I16, 5, 3, 3, 3),
-            (VecOp::Cast, Elem::U32, Elem::U8, 5, 3, 3, 6),
-        ];
-        for (op, elem, from, vl, rows, lanes, want) in table {
-            let kind = VecKind::new(op, elem, from, false, false, false);
-            let kind = kind.expect(&rt, "each operation allows plain elements");
-            let work = VecWork {
-                kind,
-                vl,
-                rows,
-                dst: 0,
-                a: 64,
-                b: 128,
-                dst_step: 8,
-                a_step: 8,
-                b_step: 8,
-            };
-            assert!(rt; 0 < lanes && lanes <= 4);
-            assert_eq!(rt; work.beats(lanes), want, "{op:?} {vl} {rows} {lanes}");
-        }
-        let work = DmaWork {
-            mem: 0,
-            spad: 0,
-            rows: 3,
-            bytes: 17,
-            mem_step: 17,
-            spad_step: 17,
-            tag: 0,
-        };
-        assert_eq!(rt; work.beats(), 6);
-        assert!(rt; work.cells().lies_below(51));
-        assert!(rt; !work.memory().lies_below(50));
     }
 }

@@ -18,7 +18,8 @@ use Rattle.ven_base.specs.Grid.{Grid, IsGrid}
 use Rattle.ven_base.specs.Pairs.{Pairs, array_named, arrays_of, ArePairs}
 use Rattle.venice_isa.specs.Encoding.{type_number}
 use Rattle.venice_isa.specs.Element.{number_of}
-use Rattle.image_loader.specs.Table.{elem_of, array_bytes as table_bytes, memory_limit, array_limit, HeaderField, EntryField, Memory, Arrays, RawEntry, LiesIn, BreaksEntry}
+use Rattle.ven_base.specs.Limits.{memory_limit}
+use Rattle.image_loader.specs.Table.{elem_of, array_bytes as table_bytes, array_limit, HeaderField, EntryField, Memory, Arrays, RawEntry, LiesIn, BreaksEntry}
 use Rattle.image_loader.specs.declared.table.EntryPart.TheVariants.{NameLength, NameBytes, Rows, Columns, Place}
 use Rattle.image_loader.specs.declared.table.EntryPart.{EntryPart}
 use Rattle.image_loader.specs.Image.{raw_entry, raw_entries, ImageContents, IsImage}

@@ -50,15 +50,12 @@ pub struct Counts {
 }
 
 /// Why there is no machine.
-#[derive(Clone, Copy, Debug, PartialEq, Eq, Error)]
+#[derive(Clone, Copy)]
 pub enum MakeFault {
     /// The image wants a scratchpad of more bytes.
-    #[error("scratchpad need {need} have {have}")]
     SpadTooSmall { need: u32, have: u32 },
     /// The inputs don't fit the image's table.
-    #[error("{0}")]
     Fit(FitFault),
     /// Memory ran out.
-    #[error("memory")]
     Memory,
 }

@@ -2,7 +2,7 @@
 
 ghost use Rattle.std.specs.Prelude.{◌≤◌, [], length, IsErrOf};
 ghost use Rattle.ven_io.specs.Files.{OnlyLoads};
-ghost use Rattle.image_loader.specs.Clear.{byte_limit};
+ghost use Rattle.image_loader.specs.Table.{file_limit};
 ghost use Rattle.image_loader.specs.Image.{spelling};
 ghost use Rattle.venice_run.specs.Answer.{answer_of, saves_and_prints};
 ghost use Rattle.venice_run.specs.Asm.{assembled, asm as asm_lem};
@@ -35,7 +35,7 @@ pub(crate) fn asm<'a, F: Files>(
 
 /// The image that the text denotes.
 fn image_of_text(alloc: Global, text: &[u8]) -> Result<Image, Ending>
-    requires { length text.now ≤ byte_limit }
+    requires { length text.now ≤ file_limit }
     ensures { assembled text.now (as_stage (λ image. image) result) }
 {
     Ok(assemble(alloc, text)?)

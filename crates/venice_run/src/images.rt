@@ -2,7 +2,7 @@
 
 ghost use Rattle.std.specs.Prelude.{◌≤◌, length, IsErrOf};
 ghost use Rattle.ven_io.specs.Files.{OnlyLoads};
-ghost use Rattle.image_loader.specs.Clear.{byte_limit};
+ghost use Rattle.image_loader.specs.Table.{file_limit};
 ghost use Rattle.venice_run.specs.Images.{image_in, image_under};
 ghost use Rattle.venice_run.specs.Stage.{as_stage};
 
@@ -28,7 +28,7 @@ pub(crate) fn load_image<F: Files>(
 
 /// The image that the bytes spell.
 fn image_of_bytes(alloc: Global, bytes: &[u8]) -> Result<Image, Ending>
-    requires { length bytes.now ≤ byte_limit }
+    requires { length bytes.now ≤ file_limit }
     ensures { image_in bytes.now (as_stage (λ image. image) result) }
 {
     Ok(read_image(alloc, bytes)?)

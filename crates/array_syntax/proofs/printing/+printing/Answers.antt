@@ -53,7 +53,7 @@ print_expr-print_call-requires t c =
     (omega (arith, c.decreases, high), w)
 
 pub print_expr-returns-in-Cast : goal.print_expr-returns-in-Cast
-print_expr-returns-in-Cast t c = rw (at_cast c.args.e.now c.in-Cast.elem c.in-Cast.a c.get-in-Cast.result.now c.in-Cast.is c.get-in-Cast.ensures) (rw c.elem_word.ensures at c.print_call.ensures)
+print_expr-returns-in-Cast t c = rw (at_cast c.args.e.now c.in-Cast.elem c.in-Cast.a c.get-in-Cast.result.now c.in-Cast.is c.get-in-Cast.ensures) (rw c.word.ensures at c.print_call.ensures)
 
 -- ---- Select
 

@@ -4,8 +4,8 @@ use Rattle.pass_plan.specs.Shown.{pass_of}
 use Rattle.pass_plan.proofs.Tilings.{tiles_few}
 use Rattle.dma_schedule.specs.Plan.{IsReady}
 use Rattle.dma_schedule.proofs.Ready.{some_sides}
-use Rattle.split_programs.specs.Geometry as geometry
-use Rattle.split_programs.specs.Geometry.{layout_of}
+use Rattle.host_codegen.specs.Geometry as geometry
+use Rattle.host_codegen.specs.Geometry.{layout_of}
 use Rattle.host_codegen.proofs.Layouts.{layout_fits}
 use Rattle.host_codegen.proofs.passes.pass_program.Goals as goal
 

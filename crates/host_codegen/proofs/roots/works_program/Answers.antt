@@ -4,9 +4,9 @@ use Rattle.buffer_lifetimes.specs.Step.{step_of, steps_of}
 use Rattle.host_programs.specs.Expr.{Variable, Product}
 use Rattle.host_programs.specs.Program.{Idle}
 use Rattle.host_programs.specs.Shown.{expr_of, program_of}
-use Rattle.split_programs.specs.Sequence.{each_of, all_of}
-use Rattle.split_programs.specs.RootProgram.{steps_programs}
-use Rattle.split_programs.specs.StepProgram.{with_row}
+use Rattle.host_codegen.specs.Sequence.{each_of, all_of}
+use Rattle.host_codegen.specs.RootProgram.{steps_programs}
+use Rattle.host_codegen.specs.StepProgram.{with_row}
 use Rattle.host_codegen.specs.Shown.{layout_at}
 use Rattle.host_codegen.proofs.Numbering.{mapped_length, programs_length}
 use Rattle.host_codegen.proofs.roots.works_program.Goals as goal

@@ -3,7 +3,7 @@ use Rattle.std.proofs.lemmas.Result.{IfOk-weaker}
 use Rattle.vector_codegen.specs.Kind.{abs_kind}
 use Rattle.host_programs.specs.Shown.{vector_of}
 use Rattle.transfer_builder.specs.Shown.{small_of}
-use Rattle.split_programs.specs.StepProgram.{order_with, nothing}
+use Rattle.host_codegen.specs.StepProgram.{order_with, nothing}
 use Rattle.host_codegen.specs.Shown.{rows_at, source_at}
 use Rattle.host_codegen.proofs.steps.order_on_one.Goals as goal
 

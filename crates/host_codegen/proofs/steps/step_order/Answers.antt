@@ -4,7 +4,7 @@ use Rattle.pass_plan.specs.declared.tree.TreeOp.TheVariants as tree_op
 use Rattle.vector_codegen.specs.Kind.{move_kind, cast_kind, conditional_kind}
 use Rattle.host_programs.specs.Shown.{vector_of}
 use Rattle.transfer_builder.specs.Shown.{small_of}
-use Rattle.split_programs.specs.StepProgram.{order_with, op_order, nothing}
+use Rattle.host_codegen.specs.StepProgram.{order_with, op_order, nothing}
 use Rattle.host_codegen.specs.Shown.{layout_at, rows_at, source_at}
 use Rattle.host_codegen.proofs.StepArguments.{same_on_one, with_one, with_select}
 use Rattle.host_codegen.proofs.steps.step_order.Goals as goal

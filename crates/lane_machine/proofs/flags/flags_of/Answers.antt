@@ -4,4 +4,4 @@ use Rattle.lane_machine.proofs.Flagged.{no_flags}
 use Rattle.lane_machine.proofs.flags.flags_of.Goals as goal
 
 pub loop-k-init : goal.loop-k-init
-loop-k-init g c = no_flags g.E.Element.ELEM (λ k. flag_for c.args.kind (element_in g.E.Element.ELEM c.args.results.now k))
+loop-k-init g c = no_flags g.E.KnownElem.ELEM (λ k. flag_for c.args.kind (element_in g.E.KnownElem.ELEM c.args.results.now k))

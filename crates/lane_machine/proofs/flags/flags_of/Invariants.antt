@@ -4,4 +4,4 @@ use Rattle.lane_machine.specs.Flags.{HasFlags}
 use Rattle.lane_machine.proofs.flags.flags_of.Given as goal
 
 abbrev pub invariant-loop-k : goal.invariant-loop-k
-invariant-loop-k g l = HasFlags g.E.Element.ELEM l.k (λ k. flag_for l.fn.kind (element_in g.E.Element.ELEM l.results k)) l.bits
+invariant-loop-k g l = HasFlags g.E.KnownElem.ELEM l.k (λ k. flag_for l.fn.kind (element_in g.E.KnownElem.ELEM l.results k)) l.bits

@@ -11,7 +11,7 @@ use Rattle.lane_machine.proofs.group.sum_in.Goals as goal
 
 pub overflow_add-sum : goal.overflow_add-sum
 overflow_add-sum g c =
-    let elem = g.E.Element.ELEM in
+    let elem = g.E.KnownElem.ELEM in
     let sum : ℤ = to_z w64 c.loop-k.sum-bits in
     let n = c.number-sum.result in
     let read : to_z w64 (of_z w64 n) ≡ n = to_z-of_z w64 n (record { sfits = c.number-sum.type_inv }) in
@@ -21,7 +21,7 @@ overflow_add-sum g c =
 
 pub loop-k-preserved : goal.loop-k-preserved
 loop-k-preserved g c =
-    let elem = g.E.Element.ELEM in
+    let elem = g.E.KnownElem.ELEM in
     let results = c.args.results.now in
     let k = c.loop-k.k in
     let sum : ℤ = to_z w64 c.loop-k.sum-bits in

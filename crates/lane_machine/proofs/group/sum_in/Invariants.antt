@@ -5,6 +5,6 @@ use Rattle.lane_machine.proofs.group.sum_in.Given as goal
 
 abbrev pub invariant-loop-k : goal.invariant-loop-k
 invariant-loop-k g l = record {
-  is : l.sum ≡ sum_of_elements g.E.Element.ELEM l.results l.k;
+  is : l.sum ≡ sum_of_elements g.E.KnownElem.ELEM l.results l.k;
   bounded : IsBounded l.k l.sum;
 }

@@ -11,8 +11,8 @@ use Rattle.lane_machine.proofs.kernel.each.Goals as goal
 
 pub loop-k-preserved : goal.loop-k-preserved
 loop-k-preserved g c =
-    let elem = g.E.Element.ELEM in
-    let from = g.F.Element.ELEM in
+    let elem = g.E.KnownElem.ELEM in
+    let from = g.F.KnownElem.ELEM in
     let op = c.args.op in
     let a = c.args.a.now in
     let b = c.args.b.now in

@@ -10,7 +10,7 @@ use Rattle.lane_machine.proofs.operand.repeat_as.Goals as goal
 
 pub loop-k-preserved : goal.loop-k-preserved
 loop-k-preserved g c =
-    let elem = g.E.Element.ELEM in
+    let elem = g.E.KnownElem.ELEM in
     let n : ℤ = to_z w64 (of_z w64 c.args.n) in
     let k = c.loop-k.k in
     let bytes = c.loop-k.bytes in

@@ -1,8 +1,7 @@
 use Rattle.std.proofs.Common.{ap, ◌∙◌, ℕ, true, false, rules, w64}
 use Rattle.std.proofs.lemmas.Int.{to_z-of_z}
 use Rattle.venice_isa.specs.declared.kind.VecKind.{VecKind}
-use Rattle.vector_codegen.specs.Kind.{move_kind}
-use Rattle.vector_codegen.specs.Work.{word_of}
+use Rattle.dma_segments.specs.FillWork.{move_kind, word_of}
 use Rattle.host_programs.specs.Expr.{Number}
 use Rattle.host_programs.specs.Program.{Order, IssueVector}
 use Rattle.transfer_programs.specs.FillProgram.{FillExpr}

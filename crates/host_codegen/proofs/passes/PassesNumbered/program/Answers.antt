@@ -7,7 +7,7 @@ use Rattle.dma_schedule.specs.Plan.{IsReady}
 use Rattle.dma_schedule.proofs.Ready.{small}
 use Rattle.dma_schedule.proofs.CodePasses.{item_is, holds_one, ready_one}
 use Rattle.host_programs.specs.Shown.{program_of}
-use Rattle.split_programs.specs.PassProgram.{pass_program}
+use Rattle.host_codegen.specs.PassProgram.{pass_program}
 use Rattle.host_codegen.proofs.Numbering.{mapped_length, pass_at}
 use Rattle.host_codegen.proofs.passes.PassesNumbered.program.Goals as goal
 
@@ -16,8 +16,8 @@ tile-requires-clause-small c =
     let self = c.args.self.now in
     let pass = c.index-pass.result.now in
     let below : c.args.number < length self.split.now.passes.items = omega (arith, c.requires.within, mapped_length pass_of self.split.now.passes.items) in
-    small self.split.now.arrays.items (pass_of pass) (tile_of (pass_of pass) self.spad)
-    (ready_one self.split.now self.spad c.args.number self.split.now.passes.items pass refl c.requires.ready.0 c.requires.ready.1 (omega arith) below c.index-pass.ensures)
+    (small self.split.now.arrays.items (pass_of pass) (tile_of (pass_of pass) self.spad)
+    (ready_one self.split.now self.spad c.args.number self.split.now.passes.items pass refl c.requires.ready.0 c.requires.ready.1 (omega arith) below c.index-pass.ensures)).few_nodes
 
 pub tile-requires-clause-holds : goal.tile-requires-clause-holds
 tile-requires-clause-holds c =

@@ -4,7 +4,7 @@ use Rattle.std.proofs.lemmas.Result.{IfOk-weaker}
 use Rattle.buffer_lifetimes.specs.Step.{step_of, steps_of}
 use Rattle.host_programs.specs.Expr.{Number}
 use Rattle.host_programs.specs.Shown.{program_of}
-use Rattle.split_programs.specs.RootProgram.{flat_program, root_program}
+use Rattle.host_codegen.specs.RootProgram.{flat_program, root_program}
 use Rattle.host_codegen.specs.Shown.{layout_at}
 use Rattle.host_codegen.proofs.Numbering.{mapped_length, mapped_at, last_program, earlier_program}
 use Rattle.host_codegen.proofs.roots.StepsNumbered.program.Goals as goal

@@ -7,7 +7,7 @@ use Rattle.dma_segments.specs.Laws.{leaf_of}
 use Rattle.host_programs.specs.Shown.{program_of}
 use Rattle.transfer_programs.specs.FillProgram.{fill_program}
 use Rattle.transfer_builder.specs.Shown.{small_of, piece_of}
-use Rattle.split_programs.specs.Geometry.{layout_of, leaf_expr, piece_at}
+use Rattle.host_codegen.specs.Geometry.{layout_of, leaf_expr, piece_at}
 use Rattle.host_codegen.proofs.tiles.FillsNumbered.program.Goals as goal
 
 pub returns : goal.returns

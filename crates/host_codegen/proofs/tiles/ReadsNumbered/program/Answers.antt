@@ -12,7 +12,7 @@ use Rattle.host_programs.specs.Program as list
 use Rattle.host_programs.specs.Shown.{expr_of, program_of}
 use Rattle.transfer_programs.specs.ReadProgram.{Target, leaf_program}
 use Rattle.transfer_builder.specs.Shown.{piece_of}
-use Rattle.split_programs.specs.Geometry.{layout_of, leaf_expr, piece_at}
+use Rattle.host_codegen.specs.Geometry.{layout_of, leaf_expr, piece_at}
 use Rattle.host_codegen.proofs.tiles.ReadsNumbered.program.Goals as goal
 
 abbrev target : Target

@@ -1,4 +1,0 @@
-use Rattle.buffer_lifetimes.proofs.tests.+counter_tree.Given as goal
-
-abbrev pub decreases-counter_tree : goal.decreases-counter_tree
-decreases-counter_tree l = l.height

@@ -1,0 +1,56 @@
+//! The words and bytes of a line.
+ghost use Rattle.std.specs.Prelude.{◌≤◌, length};
+
+use std::alloc::Global;
+use std::str::SplitWhitespace;
+use ven_base::Elem;
+
+/// The type that the next word names.
+pub fn elem(words: &mut SplitWhitespace<'_>) -> Option<Elem> {
+    Elem::from_word(words.next()?.as_bytes())
+}
+
+/// The next word as a number of 64 bits.
+pub fn number(words: &mut SplitWhitespace<'_>) -> Option<i64> {
+    words.next()?.parse::<i64>().ok()
+}
+
+/// The next word as a number of 32 bits, from 0 on.
+pub fn count(words: &mut SplitWhitespace<'_>) -> Option<u32> {
+    words.next()?.parse::<u32>().ok()
+}
+
+/// The value of a digit to base 16.
+fn digit(byte: u8) -> u8 {
+    match byte {
+        b'0'..=b'9' => byte - b'0',
+        b'a'..=b'f' => byte - b'a' + 10,
+        _ => 0,
+    }
+}
+
+/// The byte that stands first, and what stands behind it.
+fn first_byte(first: u8, behind: &[u8]) -> (u8, &[u8])
+    ensures { length result.1.now ≤ length behind.now }
+{
+    match (first, behind) {
+        (b'\\', [b'n', rest @ ..]) => (b'\n', rest),
+        (b'\\', [b'x', high, low, rest @ ..]) => (
+            digit(*high).wrapping_mul(16).wrapping_add(digit(*low)),
+            rest,
+        ),
+        _ => (first, behind),
+    }
+}
+
+/// The bytes of a text.
+pub fn bytes(alloc: Global, text: &str) -> Option<Vec<u8>> {
+    let mut bytes = Vec::new(alloc);
+    let mut rest = text.as_bytes();
+    while let [first, behind @ ..] = rest {
+        let (byte, next) = first_byte(*first, behind);
+        bytes.push(byte).ok()?;
+        rest = next;
+    }
+    Some(bytes)
+}

@@ -1,5 +1,0 @@
-use Rattle.split_programs.proofs.SmallRooms.{leaves_are_few, room_is_enough, rooms_are_small}
-use Rattle.split_programs.proofs.laws.room_laws.Goals as goal
-
-pub returns : goal.returns
-returns c = record { leaves = leaves_are_few; enough = room_is_enough; small = rooms_are_small }

@@ -1,8 +1,0 @@
-use Rattle.std.proofs.Common.{refl}
-use Rattle.std.specs.Int.Count.{count_leading_zeros}
-use Rattle.split_programs.specs.Sequence.{between}
-use Rattle.split_programs.proofs.laws.worked_rows.Goals as goal
-
-pub returns : goal.returns
-unfolding between count_leading_zeros
-returns c = record { added = refl; cut_rows = refl; least_of_five = refl }
