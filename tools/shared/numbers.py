@@ -61,11 +61,11 @@ def text_of(arrays):
     return "\n".join([*lines, ""])
 
 
-def fits(kind, shape):
-    """Whether the program takes an array of this shape."""
+def refusal_of(name, kind, shape):
+    """What the program says of an input of this name, type and shape; nothing where it takes one."""
     with Room() as room:
-        program = f"input a {kind}[{shape[0]},{shape[1]}]; output y = a;"
-        return not ask("check", room.file("fits.ven", program), "1048576").refusal.startswith("program bad shape")
+        program = f"input {name} {kind}[{shape[0]},{shape[1]}]; output {'z' if name == 'y' else 'y'} = {name};"
+        return ask("check", room.file("input.ven", program), "1048576").refusal.removeprefix("program ")
 
 
 def loaded(path):

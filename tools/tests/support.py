@@ -48,7 +48,8 @@ class Case(unittest.TestCase):
     def works(self, tool, *words, given=None):
         """The output of a call that has to go well."""
         status, output, errors = self.call(tool, *words, given=given)
-        self.assertEqual((status, [line for line in errors.splitlines() if "strips of" not in line]), (0, []))
+        told = ("strips of", "is taken with the picture's")
+        self.assertEqual((status, [line for line in errors.splitlines() if not any(it in line for it in told)]), (0, []))
         return output
 
     def refuses(self, status, part, tool, *words):
@@ -56,4 +57,4 @@ class Case(unittest.TestCase):
         found, output, errors = self.call(tool, *words)
         self.assertEqual((found, output), (status, ""))
         self.assertIn(part, errors)
-        self.assertEqual(len(errors.splitlines()), 1, errors)
+        self.assertEqual(len([line for line in errors.splitlines() if "is taken with" not in line]), 1, errors)

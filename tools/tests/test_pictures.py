@@ -77,6 +77,9 @@ class Pictures(Case):
         self.assertEqual(self.works("pictures", "one.png", "-"), "a u8[1,2]\n255 255\n")
 
     def test_what_is_refused(self):
+        numpy.save(self.path("in.npy"), noise(2, 2))
+        self.refuses(2, "ends in .arrays", "pictures", "in.npy", "b.ven")
+        self.refuses(2, "`sum` is no name for an array", "pictures", "in.npy", "b.arrays", "--names", "sum")
         self.refuses(2, "one of the two names", "pictures", "a.arrays", "b.arrays")
         self.refuses(8, "No such file", "pictures", "no.png", "b.arrays")
         self.refuses(8, "No such file", "pictures", "no.arrays", "b.png")
@@ -88,7 +91,6 @@ class Pictures(Case):
         self.refuses(4, "no array `z`", "pictures", EXAMPLES / "bins.arrays", "b.png", "--names", "z")
         numpy.save(self.path("f.npy"), numpy.ones((2, 2)))
         self.refuses(4, "fractions", "pictures", "f.npy", "b.arrays")
-        numpy.save(self.path("in.npy"), noise(2, 2))
         Image.new("L", (1025, 1024)).save(self.path("large.png"))
         self.refuses(4, "tools/filter does such a picture in strips", "pictures", "large.png", "b.arrays")
         self.refuses(14, "No such file", "pictures", "in.npy", "no/b.arrays")
@@ -120,6 +122,12 @@ class Filter(Case):
         wide = numpy.pad(self.grey.astype(int), 1)
         down = wide[:-2] + 2 * wide[1:-1] + wide[2:]
         self.assertTrue((self.picture("out.png") == (down[:, :-2] + 2 * down[:, 1:-1] + down[:, 2:] >> 4)).all())
+
+    def test_another_shape_is_told(self):
+        _, _, errors = self.call("filter", EXAMPLES / "blur.ven", "in.png", "out.png")
+        self.assertEqual(errors, f"filter: {EXAMPLES / 'blur.ven'}: `a` of 5 by 6 is taken with the picture's 12 by 9")
+        Image.fromarray(noise(5, 6)).save(self.path("five.png"))
+        self.assertEqual(self.call("filter", EXAMPLES / "blur.ven", "five.png", "out.png"), (0, "", ""))
 
     def test_sobel_and_median(self):
         wide = numpy.pad(self.grey.astype(int), 1)
@@ -203,6 +211,8 @@ class Filter(Case):
         self.refuses(14, "there is no folder no", "filter", EXAMPLES / "blur.ven", "in.png", "no/out.png")
         self.refuses(2, "has the inputs a, b", "filter", EXAMPLES / "add.ven", "in.png", "out.png")
         self.refuses(3, "program unexpected", "filter", EXAMPLES / "add.asm", "in.png", "out.png")
+        self.refuses(2, "blur.ven has no `@limit`", "filter", EXAMPLES / "blur.ven", "in.png", "out.png", "limit=5")
+        self.refuses(2, "blur.ven has no input `b`", "filter", EXAMPLES / "blur.ven", "in.png", "out.png", "b=in.png")
         self.refuses(2, "is no NAME=NUMBER", "filter", EXAMPLES / "blur.ven", "in.png", "out.png", "5")
         self.refuses(2, "--names chooses one", "filter", EXAMPLES / "blend.ven", "in.png", "out.png", "b=in.png")
 
