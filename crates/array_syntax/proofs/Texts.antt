@@ -405,5 +405,5 @@ one_program text one other h g = by (one_text language text h.tokens g.tokens (O
     by (Same all is) =
         let same : one.stmts ≡ other.stmts = one_value AreStatements reader follows h.tokens one.stmts other.stmts h.statements (subst (λ ts. AreStatements ts other.stmts) (sym all) g.statements) in
         λ i. record { stmts = same i }
-    by (Before b) = none_some b.own (sym (end_seen text h.end h.is_end) ∙ ap (seen text) b.is ∙ b.takes)
-    by (After b) = none_some b.own (sym (end_seen text g.end g.is_end) ∙ ap (seen text) b.is ∙ b.takes)
+    by (Before b) = absurd (none_some b.own (sym (end_seen text h.end h.is_end) ∙ ap (seen text) b.is ∙ b.takes))
+    by (After b) = absurd (none_some b.own (sym (end_seen text g.end g.is_end) ∙ ap (seen text) b.is ∙ b.takes))

@@ -7,6 +7,7 @@ use Rattle.std.proofs.Math.Nat.{mul-le-mul_left}
 use Rattle.std.proofs.lemmas.List.{length-map}
 use Rattle.std.proofs.lemmas.List.Sums.{sum_by-append, sum_by-cons}
 use Rattle.std.proofs.lemmas.Option.{get_or_from_slice_get}
+use Rattle.ven_base.specs.Limits.{memory_limit}
 use Rattle.ven_base.specs.declared.elem.Elem.TheVariants.{U8}
 use Rattle.ven_base.specs.Elem.{size_of}
 use Rattle.ven_base.specs.Extent.{Extent, IsExtent, elements_of}
@@ -138,7 +139,7 @@ module _ (program : List Statement) (checked : IsCheckedProgram program) where
   pub few-arrays : length (array_types program) ≤ 8448
   few-arrays = omega (arith, few-passes, few-inputs, length-append (input_types program) (map draft_type (plan_of program).passes), length-map (plan_of program).passes draft_type)
 
-  pub memory-few : end_from 0 (array_types program) ≤ 134217728
+  pub memory-few : end_from 0 (array_types program) ≤ memory_limit
   memory-few =
       let ds = (plan_of program).passes in
       omega (

@@ -4,14 +4,15 @@ ghost use Rattle.shape_check.specs.Checked.{nodes_of};
 ghost use Rattle.shape_check.specs.Node.{elem_of as node_elem};
 ghost use Rattle.shape_check.specs.Typed.{node_of};
 ghost use Rattle.pass_plan.specs.Tree.{AtLeaf};
+ghost use Rattle.pass_plan.specs.declared.pass.PassKind.TheVariants as kinds;
 ghost use Rattle.expr_split.specs.Cuts.{UnderMap, Inside, is_reduction as has_reduction, is_name as has_name, under as under_map, no_tree, as_row as as_one_row, own_of, seen_of};
 ghost use Rattle.expr_split.specs.Terms.{term_of, IsOwn, IsSeen, IsCutOf};
 
-use crate::term::{Term, copy, normalised};
+use crate::term::{Term, cast, copy, normalised, one, select, two};
 use pass_plan::{Leaf, PassKind};
 use shape_check::{Typed, TypedKind};
 use std::alloc::{AllocError, Global};
-use ven_base::{Elem, Mapping, Shape};
+use ven_base::{Elem, Fold, Mapping, Shape};
 
 /// A pass whose leaves have no numbers yet; its tree is normalised.
 #[derive(Drop)]
@@ -153,6 +154,18 @@ fn named(alloc: Global, names: &[Term], k: u32) -> Result<Term, AllocError>
     }
 }
 
+/// A tree as the root of a pass that makes its values.
+fn map_of(domain: Shape, elem: Elem, term: Term) -> Own
+    ensures { result ≡ record { kind = kinds.Map; domain = domain; elem = elem; term = term } }
+{
+    Own {
+        kind: PassKind::Map,
+        domain,
+        elem,
+        term,
+    }
+}
+
 /// A node as the root of a pass; the passes of the cuts below it go last.
 #[cycle(nodes)]
 pub fn root_of(
@@ -167,128 +180,80 @@ pub fn root_of(
 {
     let elem = node.elem;
     let domain = node.shape;
-    let kind = PassKind::Map;
     match &node.kind {
         TypedKind::Name(k) => {
             let term = named(alloc, names, *k)?;
-            Ok(Own {
-                kind,
-                domain,
-                elem,
-                term,
-            })
+            Ok(map_of(domain, elem, term))
         }
-        TypedKind::Literal(value) => {
-            let term = Term::Literal(*value);
-            Ok(Own {
-                kind,
-                domain,
-                elem,
-                term,
-            })
-        }
+        TypedKind::Literal(value) => Ok(map_of(domain, elem, Term::Literal(*value))),
         TypedKind::One(op, a) => {
             let a = seen(alloc, a, names, plan)?;
-            let term = Term::One {
-                op: *op,
-                elem,
-                a: Box::new(alloc, a)?,
-            };
-            Ok(Own {
-                kind,
-                domain,
-                elem,
-                term,
-            })
+            let term = one(alloc, *op, elem, a)?;
+            Ok(map_of(domain, elem, term))
         }
         TypedKind::Two(op, a, b) => {
             let a = seen(alloc, a, names, plan)?;
             let b = seen(alloc, b, names, plan)?;
-            let term = Term::Two {
-                op: *op,
-                elem,
-                a: Box::new(alloc, a)?,
-                b: Box::new(alloc, b)?,
-            };
-            Ok(Own {
-                kind,
-                domain,
-                elem,
-                term,
-            })
+            let term = two(alloc, *op, elem, a, b)?;
+            Ok(map_of(domain, elem, term))
         }
         TypedKind::Cast(a) => {
             let from = elem_of(a);
             let a = seen(alloc, a, names, plan)?;
-            let term = Term::Cast {
-                elem,
-                from,
-                a: Box::new(alloc, a)?,
-            };
-            Ok(Own {
-                kind,
-                domain,
-                elem,
-                term,
-            })
+            let term = cast(alloc, elem, from, a)?;
+            Ok(map_of(domain, elem, term))
         }
         TypedKind::Select(c, x, y) => {
             let c = seen(alloc, c, names, plan)?;
             let x = seen(alloc, x, names, plan)?;
             let y = seen(alloc, y, names, plan)?;
-            let term = Term::Select {
-                elem,
-                c: Box::new(alloc, c)?,
-                x: Box::new(alloc, x)?,
-                y: Box::new(alloc, y)?,
-            };
-            Ok(Own {
-                kind,
-                domain,
-                elem,
-                term,
-            })
+            let term = select(alloc, elem, c, x, y)?;
+            Ok(map_of(domain, elem, term))
         }
         TypedKind::Map(mapping, a) => {
             let a = seen_under_map(alloc, a, names, plan)?;
-            let term = under(*mapping, a);
-            Ok(Own {
-                kind,
-                domain,
-                elem,
-                term,
-            })
+            Ok(map_of(domain, elem, under(*mapping, a)))
         }
         TypedKind::RowFold(fold, a) => {
             let domain = a.shape;
             let term = seen(alloc, a, names, plan)?;
-            Ok(Own {
-                kind: PassKind::Reduce(*fold),
-                domain,
-                elem,
-                term,
-            })
+            Ok(reduction_of(*fold, domain, elem, term))
         }
         TypedKind::Fold(fold, a) => {
             let domain = a.shape;
-            let kind = PassKind::Reduce(*fold);
             let term = seen(alloc, a, names, plan)?;
-            let row = as_row(domain);
-            let rows = Own {
-                kind,
-                domain,
-                elem,
-                term,
-            };
-            let term = cut(alloc, rows, elem, row, plan)?;
-            Ok(Own {
-                kind,
-                domain: row,
-                elem,
-                term,
-            })
+            column(alloc, reduction_of(*fold, domain, elem, term), plan)
         }
     }
+}
+
+/// A tree as the root of a pass that reduces its rows.
+fn reduction_of(fold: Fold, domain: Shape, elem: Elem, term: Term) -> Own
+    ensures { result ≡ record { kind = kinds.Reduce fold; domain = domain; elem = elem; term = term } }
+{
+    Own {
+        kind: PassKind::Reduce(fold),
+        domain,
+        elem,
+        term,
+    }
+}
+
+/// The pass of these rows' reductions goes last; the root of the pass that reduces what it makes, as one row.
+fn column(alloc: Global, rows: Own, plan: &mut Plan) -> Result<Own, AllocError>
+    requires { plan.old.next + 1 < 2 ^ 32 }
+    ensures same { IfOk result (λ o. (o.kind ≡ rows.kind) × (o.domain ≡ as_one_row rows.domain) × (o.elem ≡ rows.elem)) }
+    ensures cut { IfOk result (λ o. IsCutOf o.term rows.elem (as_one_row rows.domain) rows plan.old plan.new) }
+{
+    let (kind, elem) = (rows.kind, rows.elem);
+    let domain = as_row(rows.domain);
+    let term = cut(alloc, rows, elem, domain, plan)?;
+    Ok(Own {
+        kind,
+        domain,
+        elem,
+        term,
+    })
 }
 
 /// One row of as many columns as a shape has rows.

@@ -1,5 +1,6 @@
 //! The split of a checked program (docs/COMPILER.md).
 ghost use Rattle.std.specs.Prelude.{◌≡◌, ◌++◌, [], ◌∷◌, ◌+◌, ◌*◌, ◌<◌, ◌≤◌, ◌^◌, IfOk, OnOk, map, length, All, get_or};
+ghost use Rattle.ven_base.specs.Limits.{memory_limit};
 ghost use Rattle.shape_check.specs.Checked.{statement_of, program_of, IsWhole, IsChecked};
 ghost use Rattle.pass_plan.specs.Tree.{nodes_of};
 ghost use Rattle.pass_plan.specs.Sound.{IsSound, no_place};
@@ -147,7 +148,7 @@ fn number_passes(alloc: Global, drafts: &[Draft], first: u32) -> Result<Vec<Pass
 
 /// The next multiple of 4.
 fn round_up(end: u32) -> u32
-    requires { end ≤ 134217728 }
+    requires { end ≤ memory_limit }
     ensures { result ≡ next_multiple end }
 {
     end.div_ceil(4) * 4
@@ -155,7 +156,7 @@ fn round_up(end: u32) -> u32
 
 /// One array more, at the next multiple of 4.
 fn place(type_: &ArrayType, placed: &mut Placed) -> Result<(), AllocError>
-    requires { end_from placed.old.end (type_.now ∷ []) ≤ 134217728 }
+    requires { end_from placed.old.end (type_.now ∷ []) ≤ memory_limit }
     ensures arrays { OnOk result (placed.new.arrays.items
         ≡ placed.old.arrays.items ++ places_from placed.old.end (type_.now ∷ [])) }
     ensures end { OnOk result (placed.new.end ≡ end_from placed.old.end (type_.now ∷ [])) }
@@ -172,7 +173,7 @@ fn place(type_: &ArrayType, placed: &mut Placed) -> Result<(), AllocError>
 
 /// The arrays one after another.
 fn place_all(alloc: Global, types: &[ArrayType]) -> Result<Placed, AllocError>
-    requires { end_from 0 types.now ≤ 134217728 }
+    requires { end_from 0 types.now ≤ memory_limit }
     ensures arrays { IfOk result (λ p. p.arrays.items ≡ places_from 0 types.now) }
     ensures end { IfOk result (λ p. p.end ≡ end_from 0 types.now) }
 {

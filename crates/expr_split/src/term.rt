@@ -1,5 +1,6 @@
 //! Trees over arrays under maps, before their leaves have numbers.
 ghost use Rattle.std.specs.Prelude.{◌≡◌, ◌↔◌, ◌<◌, IfOk, IsTrue};
+ghost use Rattle.pass_plan.specs.Tree as tree;
 ghost use Rattle.pass_plan.specs.Tree.{height_of};
 ghost use Rattle.pass_plan.specs.Normal.{compares as is_comparing, is_comparison as has_comparison, as_condition, as_computed, with_selects, as_root, normalised as in_normal_form};
 ghost use Rattle.expr_split.specs.Terms.{term_of};
@@ -41,6 +42,41 @@ pub enum Term {
     },
 }
 
+/// An operation on one.
+pub fn one(alloc: Global, op: Op1, elem: Elem, a: Term) -> Result<Term, AllocError>
+    ensures { IfOk result (λ t. term_of t ≡ tree.One op elem (term_of a)) }
+{
+    let a = Box::new(alloc, a)?;
+    Ok(Term::One { op, elem, a })
+}
+
+/// An operation on two.
+pub fn two(alloc: Global, op: Op2, elem: Elem, a: Term, b: Term) -> Result<Term, AllocError>
+    ensures { IfOk result (λ t. term_of t ≡ tree.Two op elem (term_of a) (term_of b)) }
+{
+    let a = Box::new(alloc, a)?;
+    let b = Box::new(alloc, b)?;
+    Ok(Term::Two { op, elem, a, b })
+}
+
+/// An operand of the type `from`, wrapped into the type `elem`.
+pub fn cast(alloc: Global, elem: Elem, from: Elem, a: Term) -> Result<Term, AllocError>
+    ensures { IfOk result (λ t. term_of t ≡ tree.Cast elem from (term_of a)) }
+{
+    let a = Box::new(alloc, a)?;
+    Ok(Term::Cast { elem, from, a })
+}
+
+/// `x` where `c` isn't 0, else `y`.
+pub fn select(alloc: Global, elem: Elem, c: Term, x: Term, y: Term) -> Result<Term, AllocError>
+    ensures { IfOk result (λ t. term_of t ≡ tree.Select elem (term_of c) (term_of x) (term_of y)) }
+{
+    let c = Box::new(alloc, c)?;
+    let x = Box::new(alloc, x)?;
+    let y = Box::new(alloc, y)?;
+    Ok(Term::Select { elem, c, x, y })
+}
+
 /// A copy of a tree.
 pub fn copy(alloc: Global, term: &Term) -> Result<Term, AllocError>
     ensures { IfOk result (λ t. term_of t ≡ term_of term.now) }
@@ -49,45 +85,27 @@ pub fn copy(alloc: Global, term: &Term) -> Result<Term, AllocError>
         Term::Leaf(leaf) => Ok(Term::Leaf(*leaf)),
         Term::Literal(value) => Ok(Term::Literal(*value)),
         Term::One { op, elem, a } => {
-            let a = Box::new(alloc, copy(alloc, a)?)?;
-            Ok(Term::One {
-                op: *op,
-                elem: *elem,
-                a,
-            })
+            let a = copy(alloc, a)?;
+            one(alloc, *op, *elem, a)
         }
         Term::Two { op, elem, a, b } => {
-            let a = Box::new(alloc, copy(alloc, a)?)?;
-            let b = Box::new(alloc, copy(alloc, b)?)?;
-            Ok(Term::Two {
-                op: *op,
-                elem: *elem,
-                a,
-                b,
-            })
+            let a = copy(alloc, a)?;
+            let b = copy(alloc, b)?;
+            two(alloc, *op, *elem, a, b)
         }
         Term::Cast { elem, from, a } => {
-            let a = Box::new(alloc, copy(alloc, a)?)?;
-            Ok(Term::Cast {
-                elem: *elem,
-                from: *from,
-                a,
-            })
+            let a = copy(alloc, a)?;
+            cast(alloc, *elem, *from, a)
         }
         Term::Move { elem, a } => {
             let a = Box::new(alloc, copy(alloc, a)?)?;
             Ok(Term::Move { elem: *elem, a })
         }
         Term::Select { elem, c, x, y } => {
-            let c = Box::new(alloc, copy(alloc, c)?)?;
-            let x = Box::new(alloc, copy(alloc, x)?)?;
-            let y = Box::new(alloc, copy(alloc, y)?)?;
-            Ok(Term::Select {
-                elem: *elem,
-                c,
-                x,
-                y,
-            })
+            let c = copy(alloc, c)?;
+            let x = copy(alloc, x)?;
+            let y = copy(alloc, y)?;
+            select(alloc, *elem, c, x, y)
         }
     }
 }
@@ -196,29 +214,16 @@ fn with_normal_selects(alloc: Global, term: Term) -> Result<Term, AllocError>
         Term::Literal(value) => Ok(Term::Literal(value)),
         Term::One { op, elem, a } => {
             let a = with_normal_selects(alloc, Box::into_inner(a))?;
-            Ok(Term::One {
-                op,
-                elem,
-                a: Box::new(alloc, a)?,
-            })
+            one(alloc, op, elem, a)
         }
         Term::Two { op, elem, a, b } => {
             let a = with_normal_selects(alloc, Box::into_inner(a))?;
             let b = with_normal_selects(alloc, Box::into_inner(b))?;
-            Ok(Term::Two {
-                op,
-                elem,
-                a: Box::new(alloc, a)?,
-                b: Box::new(alloc, b)?,
-            })
+            two(alloc, op, elem, a, b)
         }
         Term::Cast { elem, from, a } => {
             let a = with_normal_selects(alloc, Box::into_inner(a))?;
-            Ok(Term::Cast {
-                elem,
-                from,
-                a: Box::new(alloc, a)?,
-            })
+            cast(alloc, elem, from, a)
         }
         Term::Move { elem, a } => {
             let a = with_normal_selects(alloc, Box::into_inner(a))?;
@@ -233,12 +238,7 @@ fn with_normal_selects(alloc: Global, term: Term) -> Result<Term, AllocError>
             let x = with_normal_selects(alloc, Box::into_inner(x))?;
             let y = with_normal_selects(alloc, Box::into_inner(y))?;
             let y = computed(alloc, elem, y)?;
-            Ok(Term::Select {
-                elem,
-                c: Box::new(alloc, c)?,
-                x: Box::new(alloc, x)?,
-                y: Box::new(alloc, y)?,
-            })
+            select(alloc, elem, c, x, y)
         }
     }
 }

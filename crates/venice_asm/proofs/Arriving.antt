@@ -4,7 +4,8 @@ use Rattle.std.specs.Prelude.{slice_get, if◌then◌else◌, MatchOption}
 use Rattle.std.specs.Option.{option_map_or, option_and_then}
 use Rattle.std.proofs.lemmas.Bool.{cases_lt}
 use Rattle.std.proofs.lemmas.List.{append-nil, map-append, same_from_push, take-append-le}
-use Rattle.image_loader.specs.Table.{array_limit, instr_limit}
+use Rattle.venice_isa.specs.Limits.{instruction_limit}
+use Rattle.image_loader.specs.Table.{array_limit}
 use Rattle.venice_asm.specs.declared.head.Head.{Head}
 use Rattle.venice_asm.specs.declared.head.Head.TheVariants as heads
 use Rattle.venice_asm.specs.declared.operand.Operand.{Operand}
@@ -102,7 +103,7 @@ keeps_label text lines name old new section h t =
       apart = subst AreApart (sym (names_pushed lines name)) (apart_push (map (λ (pair : List ℕ × ℕ). pair.0) (labels_of lines)) name (subst AreApart names h.apart)
           (there_found (labels_of lines) name (ap (λ ls. number_among ls name) (sym same) ∙ t.fresh)));
       instrs = subst (AreInstrs lines) (sym t.instrs) h.instrs;
-      few = subst (λ is. length is ≤ instr_limit) (sym t.instrs) h.few;
+      few = subst (λ is. length is ≤ instruction_limit) (sym t.instrs) h.few;
       references = subst (AreReferences text lines) (sym t.references) h.references;
     }
 
@@ -121,12 +122,12 @@ push_some [] target e = cc
 push_some (x ∷ front) target e = cc
 
 -- a line's first word has been read
-pub entered : (text : List ℕ) (lines : List TextLine) (label : Option (List ℕ)) (head : Head) (at : ℕ) (old new : Reading) → Keeps text lines label old → (is_instr head ≡ true → length old.instrs.items < instr_limit) → IsEntered head at old new → IsAt text new (Behind lines label head [])
+pub entered : (text : List ℕ) (lines : List TextLine) (label : Option (List ℕ)) (head : Head) (at : ℕ) (old new : Reading) → Keeps text lines label old → (is_instr head ≡ true → length old.instrs.items < instruction_limit) → IsEntered head at old new → IsAt text new (Behind lines label head [])
 entered text lines label head at old new h room e =
     subst (λ os. IsAt text new (Behind lines label head os)) e.operands
     (AtOperand lines label head at e.phase
     (subst (λ os. AreOperands text lines label head os at) (sym e.operands) (record { ranges = refl; last = λ front target is. absurd (push_some front target is) }))
-    (λ instr. subst (λ is. length is < instr_limit) (sym e.kept.code.instrs) (room instr))
+    (λ instr. subst (λ is. length is < instruction_limit) (sym e.kept.code.instrs) (room instr))
     (keeps_kept text lines label old new e.kept h))
 
 section_is : (text : List ℕ) (lines : List TextLine) (old : Reading) → Keeps text lines None old → section_of lines ≡ Some old.section
@@ -145,7 +146,7 @@ start_arrives text lines old new (words.Name name) at phase h place t =
     by None is n = subst (λ b. IsAt text new (if b then AfterName lines name else Stuck)) (sym n.sizes) (AtName lines name at n.phase place (keeps_kept text lines None old new n.kept h))
     by (Some head) is e = entered text lines None head at old new h (λ instr. no_room head is instr) e
       where
-        no_room : (hd : Head) → keyword_among head_word (heads_at (Some old.section)) name ≡ Some hd → is_instr hd ≡ true → length old.instrs.items < instr_limit
+        no_room : (hd : Head) → keyword_among head_word (heads_at (Some old.section)) name ≡ Some hd → is_instr hd ≡ true → length old.instrs.items < instruction_limit
         no_room hd found instr = let wrong : false ≡ true = sym (head_no_instr old.section name hd found) ∙ instr in absurd (cc)
 start_arrives text lines old new word at phase h place t = absurd t
 
@@ -160,7 +161,7 @@ label_arrives text lines name old new word at h t = absurd t
 
 -- ---- an operand more
 
-pub operand_arrives : (text : List ℕ) (lines : List TextLine) (label : Option (List ℕ)) (head : Head) (old new : Reading) (word : Word) (at last_at : ℕ) → AreOperands text lines label head old.operands.items last_at → (is_instr head ≡ true → length old.instrs.items < instr_limit) → Keeps text lines label old → IsPlaceBehind text (words_of (Behind lines label head old.operands.items)) at → IsGrown head word at old new → IsAt text new (step (Behind lines label head old.operands.items) word)
+pub operand_arrives : (text : List ℕ) (lines : List TextLine) (label : Option (List ℕ)) (head : Head) (old new : Reading) (word : Word) (at last_at : ℕ) → AreOperands text lines label head old.operands.items last_at → (is_instr head ≡ true → length old.instrs.items < instruction_limit) → Keeps text lines label old → IsPlaceBehind text (words_of (Behind lines label head old.operands.items)) at → IsGrown head word at old new → IsAt text new (step (Behind lines label head old.operands.items) word)
 operand_arrives text lines label head old new word at last_at os room h place g =
     let stepped = operand_step lines label head old.operands.items g.kind g.more word g.operand g.left (ap (λ v. operand_as v g.kind word) (sym h.version) ∙ g.is.is) in
     subst (IsAt text new) (ap (λ list. Behind lines label head list) g.operands ∙ sym stepped)
@@ -170,7 +171,7 @@ operand_arrives text lines label head old new word at last_at os room h place g 
       ranges = range_push (head_kinds head) old.operands.items g.kind g.more g.operand os.ranges g.left g.is.ranges;
       last = λ front target is. subst (λ list. IsPlaceBehind text (words_to lines label head list) at) (same_from_push old.operands.items front g.operand target is).0 place;
     }))
-    (λ instr. subst (λ is. length is < instr_limit) (sym g.kept.code.instrs) (room instr))
+    (λ instr. subst (λ is. length is < instruction_limit) (sym g.kept.code.instrs) (room instr))
     (keeps_kept text lines label old new g.kept h))
 
 pub names_with : (lines : List TextLine) (label : Option (List ℕ)) → map (λ (pair : List ℕ × ℕ). pair.0) (with_label lines label) ≡ map (λ (pair : List ℕ × ℕ). pair.0) (labels_of lines) ++ label_list label

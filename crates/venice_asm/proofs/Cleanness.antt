@@ -7,17 +7,18 @@ use Rattle.std.proofs.lemmas.List.{append-nil, take_at, map-append, take-append-
 use Rattle.std.proofs.lemmas.List.Elements.{filter-append}
 use Rattle.std.proofs.lemmas.Option.{slice_get_within}
 use Rattle.ven_io.specs.Reader.{run_from}
-use Rattle.image_loader.specs.Table.{instr_limit}
+use Rattle.venice_isa.specs.Limits.{instruction_limit}
 use Rattle.venice_asm.specs.declared.head.Head.{Head}
+use Rattle.venice_asm.specs.declared.head.Head.TheVariants as heads
 use Rattle.venice_asm.specs.declared.operand.Operand.{Operand}
 use Rattle.venice_asm.specs.declared.word.Word.{Word}
 use Rattle.venice_asm.specs.declared.word.Word.TheVariants as words
 use Rattle.venice_asm.specs.Faults.{AreApart}
 use Rattle.venice_asm.specs.Lines.{Statement, TextLine, is_instr, section_of, has_sizes, statements_of, version_of}
 use Rattle.venice_asm.specs.Meaning.{instrs_of, labels_from, labels_of, label_names}
-use Rattle.venice_asm.specs.Reading.{instr_named, heads_at, State, Start, AfterName, AfterLabel, Behind, Stuck, with_line, at_start, with_instr, at_word, step}
+use Rattle.venice_asm.specs.Reading.{instr_named, heads_at, State, Start, AfterName, AfterLabel, Behind, Stuck, with_line, at_start, with_instr, at_word, at_colon, step}
 use Rattle.venice_asm.specs.Spelling.{head_word, keyword_among}
-use Rattle.venice_asm.proofs.Following.{Outcome, Ended, Grown, Unfit, outcome}
+use Rattle.venice_asm.proofs.Following.{Outcome, Ended, Grown, Unfit, outcome, ColonOutcome, ArrayLabel, NoLabel, colon_outcome}
 use Rattle.venice_asm.proofs.Lining.{statements_push}
 use Rattle.venice_asm.proofs.Registers.{none_some}
 use Rattle.venice_asm.proofs.Sentences.{IsRanged, ranged_back}
@@ -103,6 +104,7 @@ pub data StepTo : State → Word → State → Type 0 where
       → StepTo (AfterLabel lines name) (words.Name word) (Behind lines (Some name) head [])
   Goes : (lines : List TextLine) (label : Option (List ℕ)) (head : Head) (os : List Operand) (word : Word) (t : State)
       → Outcome lines label head os word t → StepTo (Behind lines label head os) word t
+  ArrayLabels : (lines : List TextLine) → StepTo (Behind lines None heads.Array []) words.Colon (AfterLabel lines (head_word heads.Array))
   Sticks : (s : State) (word : Word) → StepTo s word Stuck
 
 start_to : (lines : List TextLine) (name : List ℕ) → StepTo (Start lines) (words.Name name) (at_start lines name)
@@ -121,7 +123,7 @@ named_to lines name word other = by (instr_named (version_of lines) name) refl
   where
     by : (found : Option Head) → instr_named (version_of lines) name ≡ found → StepTo (AfterName lines name) word (at_word (option_map_or (λ (head : Head). Behind lines None head []) found Stuck) word)
     by None is = Sticks (AfterName lines name) word
-    by (Some head) is = InstrBegins lines name head word (step (Behind lines None head []) word) other is (outcome lines None head [] word)
+    by (Some head) is = InstrBegins lines name head word (at_word (Behind lines None head []) word) other is (outcome lines None head [] word)
 
 labelled_to : (lines : List TextLine) (name word : List ℕ) → StepTo (AfterLabel lines name) (words.Name word) (with_instr lines (Some name) word)
 labelled_to lines name word = by (instr_named (version_of lines) word) refl
@@ -129,6 +131,10 @@ labelled_to lines name word = by (instr_named (version_of lines) word) refl
     by : (found : Option Head) → instr_named (version_of lines) word ≡ found → StepTo (AfterLabel lines name) (words.Name word) (option_map_or (λ (head : Head). Behind lines (Some name) head []) found Stuck)
     by None is = Sticks (AfterLabel lines name) (words.Name word)
     by (Some head) is = LabelInstr lines name word head is
+
+colon_to : (lines : List TextLine) (label : Option (List ℕ)) (head : Head) (os : List Operand) (t : State) → ColonOutcome lines label head os t → StepTo (Behind lines label head os) words.Colon t
+colon_to lines _ _ _ _ ArrayLabel = ArrayLabels lines
+colon_to lines _ _ _ _ (NoLabel label head os) = Sticks (Behind lines label head os) words.Colon
 
 pub step_to : (s : State) (word : Word) → StepTo s word (step s word)
 step_to (Start lines) words.Line = EmptyLine lines
@@ -142,19 +148,25 @@ step_to (AfterName lines name) words.Close = named_to lines name words.Close (λ
 step_to (AfterName lines name) words.Line = named_to lines name words.Line (λ e. absurd (cc))
 step_to (AfterLabel lines name) words.Line = LabelLine lines name
 step_to (AfterLabel lines name) (words.Name word) = labelled_to lines name word
-step_to (Behind lines label head os) word = Goes lines label head os word (step (Behind lines label head os) word) (outcome lines label head os word)
+step_to (Behind lines label head os) words.Colon = colon_to lines label head os (at_colon lines label head os) (colon_outcome lines label head os)
+step_to (Behind lines label head os) (words.Name bytes) = Goes lines label head os (words.Name bytes) (at_word (Behind lines label head os) (words.Name bytes)) (outcome lines label head os (words.Name bytes))
+step_to (Behind lines label head os) (words.Number n) = Goes lines label head os (words.Number n) (at_word (Behind lines label head os) (words.Number n)) (outcome lines label head os (words.Number n))
+step_to (Behind lines label head os) words.Open = Goes lines label head os words.Open (at_word (Behind lines label head os) words.Open) (outcome lines label head os words.Open)
+step_to (Behind lines label head os) words.Comma = Goes lines label head os words.Comma (at_word (Behind lines label head os) words.Comma) (outcome lines label head os words.Comma)
+step_to (Behind lines label head os) words.Close = Goes lines label head os words.Close (at_word (Behind lines label head os) words.Close) (outcome lines label head os words.Close)
+step_to (Behind lines label head os) words.Line = Goes lines label head os words.Line (at_word (Behind lines label head os) words.Line) (outcome lines label head os words.Line)
 step_to s word = Sticks s word
 
 -- ---- few instructions
 
 abbrev pub IsFew : State → Type 0
-IsFew (Start lines) = length (instrs_of lines) ≤ instr_limit
-IsFew (AfterName lines name) = length (instrs_of lines) ≤ instr_limit
-IsFew (AfterLabel lines name) = length (instrs_of lines) ≤ instr_limit
-IsFew (Behind lines label head os) = (length (instrs_of lines) ≤ instr_limit) × (is_instr head ≡ true → length (instrs_of lines) < instr_limit)
+IsFew (Start lines) = length (instrs_of lines) ≤ instruction_limit
+IsFew (AfterName lines name) = length (instrs_of lines) ≤ instruction_limit
+IsFew (AfterLabel lines name) = length (instrs_of lines) ≤ instruction_limit
+IsFew (Behind lines label head os) = (length (instrs_of lines) ≤ instruction_limit) × (is_instr head ≡ true → length (instrs_of lines) < instruction_limit)
 IsFew Stuck = ⊥
 
-line_few : (lines : List TextLine) (line : TextLine) → length (instrs_of (lines ++ line ∷ [])) ≤ instr_limit → length (instrs_of lines) ≤ instr_limit
+line_few : (lines : List TextLine) (line : TextLine) → length (instrs_of (lines ++ line ∷ [])) ≤ instruction_limit → length (instrs_of lines) ≤ instruction_limit
 line_few lines line h =
     let all = ap length (instrs_push lines line) in
     let sum = length-append (instrs_of lines) (filter (λ (s : Statement). is_instr s.head) (cons_option line.statement [])) in
@@ -183,6 +195,7 @@ few_back _ _ _ (InstrBegins lines name head word t other is o) h = (outcome_few 
 few_back _ _ _ (LabelLine lines name) h = line_few lines (record { label = Some name; statement = None }) h
 few_back _ _ _ (LabelInstr lines name word head is) h = h.0
 few_back _ _ _ (Goes lines label head os word t o) h = outcome_few lines label head os word t o h
+few_back _ _ _ (ArrayLabels lines) h = (h, λ instr. let e : false ≡ true = instr in absurd (cc))
 few_back _ _ _ (Sticks s word) h = absurd h
 
 -- ---- labels apart
@@ -208,6 +221,7 @@ apart_back _ _ _ (InstrBegins lines name head word t other is o) h = apart_front
 apart_back _ _ _ (LabelLine lines name) h = subst AreApart (names_push lines (record { label = Some name; statement = None })) h
 apart_back _ _ _ (LabelInstr lines name word head is) h = h
 apart_back _ _ _ (Goes lines label head os word t o) h = outcome_apart lines label head os word t o h
+apart_back _ _ _ (ArrayLabels lines) h = subst AreApart (sym (append-nil (label_names lines))) (apart_front (label_names lines) (head_word heads.Array ∷ []) h)
 apart_back _ _ _ (Sticks s word) h = absurd h
 
 -- ---- no fault so far

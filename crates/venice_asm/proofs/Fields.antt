@@ -9,7 +9,8 @@ use Rattle.ven_base.specs.First.{IsFirst}
 use Rattle.ven_base.specs.declared.entry.Entry.{Entry}
 use Rattle.image_loader.specs.declared.table.EntryPart.{EntryPart}
 use Rattle.image_loader.specs.declared.table.EntryPart.TheVariants as entry_parts
-use Rattle.image_loader.specs.Table.{Header, RawEntry, HeaderPart, Spad, Memory, Arrays, Instrs, TableField, HeaderField, EntryField, LiesIn, spad_limit, memory_limit, array_limit, no_entry, entry_place, offset_of, header_place, field_place, BreaksEntry, BreaksFirst}
+use Rattle.ven_base.specs.Limits.{cell_limit, memory_limit}
+use Rattle.image_loader.specs.Table.{Header, RawEntry, HeaderPart, Spad, Memory, Arrays, Instrs, TableField, HeaderField, EntryField, LiesIn, array_limit, no_entry, entry_place, offset_of, header_place, field_place, BreaksEntry, BreaksFirst}
 use Rattle.image_loader.proofs.Slots.{places_grow, earlier_part}
 use Rattle.venice_asm.specs.declared.fault.AsmFault.{AsmFault}
 use Rattle.venice_asm.specs.declared.fault.AsmFault.TheVariants as answers
@@ -43,8 +44,8 @@ header_is : (text : List ℕ) (lines : List TextLine) (r : Reading) → Reads te
 header_is text lines r h k = record { spad = spad_is text lines r h k; memory = memory_is text lines r h k; arrays = refl; instrs = refl }
 
 -- a number of the header is one that is kept
-no_spad : (text : List ℕ) (lines : List TextLine) (r : Reading) → Keeps text lines None r → LiesIn 1 spad_limit r.spad → IsWrongField lines (HeaderField Spad) → ⊥
-no_spad text lines r k good w = w.breaks (subst (LiesIn 1 spad_limit) (k.spad w.header.spad w.is_header.spad) good)
+no_spad : (text : List ℕ) (lines : List TextLine) (r : Reading) → Keeps text lines None r → LiesIn 1 cell_limit r.spad → IsWrongField lines (HeaderField Spad) → ⊥
+no_spad text lines r k good w = w.breaks (subst (LiesIn 1 cell_limit) (k.spad w.header.spad w.is_header.spad) good)
 
 no_memory : (text : List ℕ) (lines : List TextLine) (r : Reading) → Keeps text lines None r → LiesIn 0 memory_limit r.memory → IsWrongField lines (HeaderField Memory) → ⊥
 no_memory text lines r k good w = w.breaks (subst (LiesIn 0 memory_limit) (k.memory w.header.memory w.is_header.memory) good)
@@ -92,9 +93,9 @@ header_first lines part here before = record { here = here; first = first }
 
 abbrev BadHeaderAt : ℕ → ℕ → ℕ → ℕ → Type 0
 BadHeaderAt spad memory array_count at =
-    ((at ≡ 4) × (¬ LiesIn 1 spad_limit spad))
-    ⊎ ((at ≡ 8) × LiesIn 1 spad_limit spad × (¬ LiesIn 0 memory_limit memory))
-    ⊎ ((at ≡ 12) × LiesIn 1 spad_limit spad × LiesIn 0 memory_limit memory × (¬ LiesIn 0 array_limit array_count))
+    ((at ≡ 4) × (¬ LiesIn 1 cell_limit spad))
+    ⊎ ((at ≡ 8) × LiesIn 1 cell_limit spad × (¬ LiesIn 0 memory_limit memory))
+    ⊎ ((at ≡ 12) × LiesIn 1 cell_limit spad × LiesIn 0 memory_limit memory × (¬ LiesIn 0 array_limit array_count))
 
 bad_header_at : (text : List ℕ) (lines : List TextLine) (r : Reading) (at : ℕ) → Resolves text lines → Keeps text lines None r → BadHeaderAt r.spad r.memory r.array_count at → IsRefused text (answers.Table at)
 bad_header_at text lines r at h k (inl (is, bad)) =

@@ -10,13 +10,14 @@ use Rattle.venice_asm.specs.declared.head.Head.{Head}
 use Rattle.venice_asm.specs.declared.head.Head.TheVariants as heads
 use Rattle.venice_asm.specs.declared.head.Kind.{Kind}
 use Rattle.venice_asm.specs.declared.operand.Operand.{Operand}
+use Rattle.venice_asm.specs.declared.operand.Operand.TheVariants as operands
 use Rattle.venice_asm.specs.declared.phase.Section.{Section}
 use Rattle.venice_asm.specs.declared.phase.Section.TheVariants as sections
 use Rattle.venice_asm.specs.declared.word.Word.{Word}
 use Rattle.venice_asm.specs.declared.word.Word.TheVariants as words
 use Rattle.venice_asm.specs.Fitting.{operand_as}
 use Rattle.venice_asm.specs.Lines.{Statement, TextLine, label_words, statement_words, optional_words, text_words, is_instr, head_kinds, is_optional, behind_label, behind_head, behind_statement, section_of, has_sizes, version_of, has_head}
-use Rattle.venice_asm.specs.Reading.{instructions, in_version, instr_named, heads_at, State, Start, AfterName, AfterLabel, Behind, Stuck, with_line, kinds_left, at_start, with_instr, at_kinds, at_word, step, suit_so_far}
+use Rattle.venice_asm.specs.Reading.{instructions, in_version, instr_named, heads_at, State, Start, AfterName, AfterLabel, Behind, Stuck, with_line, kinds_left, at_start, with_instr, at_kinds, at_word, at_colon, step, suit_so_far}
 use Rattle.venice_asm.specs.Spelling.{head_word, operand_word, keyword_among}
 use Rattle.venice_asm.proofs.Lining.{words_push, section_behind, Fine, fine_push, StatementFits, gives}
 use Rattle.venice_asm.proofs.Operands.{operand_said, keyword_said}
@@ -25,6 +26,44 @@ use Rattle.venice_asm.proofs.Suiting.{suit_push, suit_end}
 use Rattle.venice_asm.proofs.Written.{next_instr}
 
 -- ---- a word behind a line's first word
+
+-- a `:` is no operand's word
+pub no_colon : (o : Operand) → operand_word o ≢ words.Colon
+no_colon (operands.Name bytes) e = absurd (cc)
+no_colon (operands.Number n) e = absurd (cc)
+no_colon (operands.Output b) e = absurd (cc)
+no_colon operands.Open e = absurd (cc)
+no_colon (operands.Rows n) e = absurd (cc)
+no_colon operands.Comma e = absurd (cc)
+no_colon (operands.Columns n) e = absurd (cc)
+no_colon operands.Close e = absurd (cc)
+no_colon (operands.Register n) e = absurd (cc)
+no_colon (operands.Parameter n) e = absurd (cc)
+no_colon (operands.Write b) e = absurd (cc)
+no_colon (operands.Operation op) e = absurd (cc)
+no_colon (operands.Elem elem) e = absurd (cc)
+no_colon (operands.ModeA a) e = absurd (cc)
+no_colon (operands.ModeAB a b) e = absurd (cc)
+no_colon operands.Sum e = absurd (cc)
+
+-- another word than `:`
+pub behind_step : (lines : List TextLine) (label : Option (List ℕ)) (head : Head) (os : List Operand) (word : Word) → word ≢ words.Colon → step (Behind lines label head os) word ≡ at_word (Behind lines label head os) word
+behind_step lines label head os words.Colon other = absurd (other refl)
+behind_step lines label head os (words.Name bytes) other = refl
+behind_step lines label head os (words.Number n) other = refl
+behind_step lines label head os words.Open other = refl
+behind_step lines label head os words.Comma other = refl
+behind_step lines label head os words.Close other = refl
+behind_step lines label head os words.Line other = refl
+
+-- a `:` makes the word of arrays a label, or can't go on
+pub data ColonOutcome (lines : List TextLine) : Option (List ℕ) → Head → List Operand → State → Type 0 where
+  ArrayLabel : ColonOutcome lines None heads.Array [] (AfterLabel lines (head_word heads.Array))
+  NoLabel : (label : Option (List ℕ)) (head : Head) (os : List Operand) → ColonOutcome lines label head os Stuck
+
+pub colon_outcome : (lines : List TextLine) (label : Option (List ℕ)) (head : Head) (os : List Operand) → ColonOutcome lines label head os (at_colon lines label head os)
+colon_outcome lines None heads.Array [] = ArrayLabel
+colon_outcome lines label head os = NoLabel label head os
 
 -- what a word leads to, where these kinds may follow
 abbrev taken : List Kind → List TextLine → Option (List ℕ) → Head → List Operand → Word → State
@@ -73,7 +112,7 @@ word_outcome lines label head os word other =
     by [] left = Unfit
     by (kind ∷ more) left = found kind more (operand_as (version_of lines) kind word) left refl
 
-pub outcome : (lines : List TextLine) (label : Option (List ℕ)) (head : Head) (os : List Operand) (word : Word) → Outcome lines label head os word (step (Behind lines label head os) word)
+pub outcome : (lines : List TextLine) (label : Option (List ℕ)) (head : Head) (os : List Operand) (word : Word) → Outcome lines label head os word (at_word (Behind lines label head os) word)
 outcome lines label head os words.Line = line_outcome lines label head os
 outcome lines label head os (words.Name bytes) = word_outcome lines label head os (words.Name bytes) (λ e. absurd (cc))
 outcome lines label head os (words.Number n) = word_outcome lines label head os (words.Number n) (λ e. absurd (cc))
@@ -82,14 +121,18 @@ outcome lines label head os words.Open = word_outcome lines label head os words.
 outcome lines label head os words.Comma = word_outcome lines label head os words.Comma (λ e. absurd (cc))
 outcome lines label head os words.Close = word_outcome lines label head os words.Close (λ e. absurd (cc))
 
+pub operand_at : (lines : List TextLine) (label : Option (List ℕ)) (head : Head) (os : List Operand) (kind : Kind) (more : List Kind) (word : Word) (o : Operand) → kinds_left (head_kinds head) os ≡ kind ∷ more → operand_as (version_of lines) kind word ≡ Some o → at_word (Behind lines label head os) word ≡ Behind lines label head (os ++ o ∷ [])
+operand_at lines label head os kind more words.Line o left is = absurd (none_some o is)
+operand_at lines label head os kind more (words.Name bytes) o left is = ap (λ rest. at_kinds rest lines label head os (words.Name bytes)) left ∙ ap (λ (x : Option Operand). option_map_or (λ (y : Operand). Behind lines label head (os ++ y ∷ [])) x Stuck) is
+operand_at lines label head os kind more (words.Number n) o left is = ap (λ rest. at_kinds rest lines label head os (words.Number n)) left ∙ ap (λ (x : Option Operand). option_map_or (λ (y : Operand). Behind lines label head (os ++ y ∷ [])) x Stuck) is
+operand_at lines label head os kind more words.Colon o left is = ap (λ rest. at_kinds rest lines label head os words.Colon) left ∙ ap (λ (x : Option Operand). option_map_or (λ (y : Operand). Behind lines label head (os ++ y ∷ [])) x Stuck) is
+operand_at lines label head os kind more words.Open o left is = ap (λ rest. at_kinds rest lines label head os words.Open) left ∙ ap (λ (x : Option Operand). option_map_or (λ (y : Operand). Behind lines label head (os ++ y ∷ [])) x Stuck) is
+operand_at lines label head os kind more words.Comma o left is = ap (λ rest. at_kinds rest lines label head os words.Comma) left ∙ ap (λ (x : Option Operand). option_map_or (λ (y : Operand). Behind lines label head (os ++ y ∷ [])) x Stuck) is
+operand_at lines label head os kind more words.Close o left is = ap (λ rest. at_kinds rest lines label head os words.Close) left ∙ ap (λ (x : Option Operand). option_map_or (λ (y : Operand). Behind lines label head (os ++ y ∷ [])) x Stuck) is
+
 pub operand_step : (lines : List TextLine) (label : Option (List ℕ)) (head : Head) (os : List Operand) (kind : Kind) (more : List Kind) (word : Word) (o : Operand) → kinds_left (head_kinds head) os ≡ kind ∷ more → operand_as (version_of lines) kind word ≡ Some o → step (Behind lines label head os) word ≡ Behind lines label head (os ++ o ∷ [])
-operand_step lines label head os kind more words.Line o left is = absurd (none_some o is)
-operand_step lines label head os kind more (words.Name bytes) o left is = ap (λ rest. at_kinds rest lines label head os (words.Name bytes)) left ∙ ap (λ (x : Option Operand). option_map_or (λ (y : Operand). Behind lines label head (os ++ y ∷ [])) x Stuck) is
-operand_step lines label head os kind more (words.Number n) o left is = ap (λ rest. at_kinds rest lines label head os (words.Number n)) left ∙ ap (λ (x : Option Operand). option_map_or (λ (y : Operand). Behind lines label head (os ++ y ∷ [])) x Stuck) is
-operand_step lines label head os kind more words.Colon o left is = ap (λ rest. at_kinds rest lines label head os words.Colon) left ∙ ap (λ (x : Option Operand). option_map_or (λ (y : Operand). Behind lines label head (os ++ y ∷ [])) x Stuck) is
-operand_step lines label head os kind more words.Open o left is = ap (λ rest. at_kinds rest lines label head os words.Open) left ∙ ap (λ (x : Option Operand). option_map_or (λ (y : Operand). Behind lines label head (os ++ y ∷ [])) x Stuck) is
-operand_step lines label head os kind more words.Comma o left is = ap (λ rest. at_kinds rest lines label head os words.Comma) left ∙ ap (λ (x : Option Operand). option_map_or (λ (y : Operand). Behind lines label head (os ++ y ∷ [])) x Stuck) is
-operand_step lines label head os kind more words.Close o left is = ap (λ rest. at_kinds rest lines label head os words.Close) left ∙ ap (λ (x : Option Operand). option_map_or (λ (y : Operand). Behind lines label head (os ++ y ∷ [])) x Stuck) is
+operand_step lines label head os kind more word o left is =
+    behind_step lines label head os word (λ e. no_colon o ((operand_said (version_of lines) kind word o is).word_is ∙ e)) ∙ operand_at lines label head os kind more word o left is
 
 -- ---- what holds in each state
 
@@ -231,16 +274,39 @@ instr_next _ head AtArrays is = (next_instr head is).0
 instr_next _ head AtCode is = (next_instr head is).1
 
 pub label_next : (section : Option Section) (name : List ℕ) → IsSized section → keyword_among head_word (heads_at section) name ≡ None → option_and_then (behind_label (Some name)) section ≡ Some sections.Code
-label_next _ name AtArrays none = by (bytes_eq name (head_word heads.Array)) none
-  where
-    by : (t : Bool) → (if t then Some heads.Array else None) ≡ None → (if t then None else Some sections.Code) ≡ Some sections.Code
-    by true e = absurd (none_some heads.Array (sym e))
-    by false e = refl
+label_next _ name AtArrays none = refl
 label_next _ name AtCode none = refl
 
 pub no_label : (section : Option Section) → option_and_then (behind_label None) section ≡ section
 no_label None = refl
 no_label (Some section) = refl
+
+arrays_opened : (section : Option Section) (next : Section) → option_and_then (behind_head heads.Array) section ≡ Some next → section ≡ Some sections.Arrays
+arrays_opened None next e = absurd (none_some next e)
+arrays_opened (Some sections.Version) next e = absurd (none_some next e)
+arrays_opened (Some sections.Spad) next e = absurd (none_some next e)
+arrays_opened (Some sections.Memory) next e = absurd (none_some next e)
+arrays_opened (Some sections.Arrays) next e = refl
+arrays_opened (Some sections.Code) next e = absurd (none_some next e)
+
+-- the word of arrays has begun a line: it may be a label too
+pub array_section : (lines : List TextLine) (os : List Operand) → IsBegun lines None heads.Array os → section_of lines ≡ Some sections.Arrays
+array_section lines os h = sym (no_label (section_of lines)) ∙ arrays_opened (option_and_then (behind_label None) (section_of lines)) h.opens.section h.opens.order
+
+pub array_labelled : (lines : List TextLine) (os : List Operand) → IsBegun lines None heads.Array os → IsLabelled lines (head_word heads.Array)
+array_labelled lines os h = record { fine = h.opens.fine; order = ap (option_and_then (behind_label (Some (head_word heads.Array)))) (array_section lines os h) }
+
+labels_code : (section : Option Section) (name : List ℕ) → option_and_then (behind_label (Some name)) section ≡ Some sections.Arrays → ⊥
+labels_code None name e = absurd (none_some sections.Arrays e)
+labels_code (Some sections.Version) name e = absurd (none_some sections.Arrays e)
+labels_code (Some sections.Spad) name e = absurd (none_some sections.Arrays e)
+labels_code (Some sections.Memory) name e = absurd (none_some sections.Arrays e)
+labels_code (Some sections.Arrays) name e = let same : sections.Code ≡ sections.Arrays = some_is sections.Code sections.Arrays e in cc
+labels_code (Some sections.Code) name e = let same : sections.Code ≡ sections.Arrays = some_is sections.Code sections.Arrays e in cc
+
+-- but behind a label it begins nothing
+pub no_labelled_array : (lines : List TextLine) (name : List ℕ) (os : List Operand) → IsBegun lines (Some name) heads.Array os → ⊥
+no_labelled_array lines name os h = labels_code (section_of lines) name (arrays_opened (option_and_then (behind_label (Some name)) (section_of lines)) h.opens.section h.opens.order)
 
 pub instr_opens : (lines : List TextLine) (name : List ℕ) (head : Head) → IsNamed lines name → IsInstrWord (version_of lines) name head → Opens lines None head
 instr_opens lines name head h w = record {
@@ -298,8 +364,8 @@ named_word lines name word h goes = by (instr_named (version_of lines) name) ref
     by None is g = absurd (g refl)
     by (Some head) is g =
         let w = instr_word (version_of lines) name head is in
-        subst (λ n. Moves (text_words lines ++ words.Name n ∷ []) word (step (Behind lines None head []) word)) w.spelled
-        (behind_moves lines None head [] word (step (Behind lines None head []) word) (record { opens = instr_opens lines name head h w; suit = refl }) (outcome lines None head [] word) g)
+        subst (λ n. Moves (text_words lines ++ words.Name n ∷ []) word (at_word (Behind lines None head []) word)) w.spelled
+        (behind_moves lines None head [] word (at_word (Behind lines None head []) word) (record { opens = instr_opens lines name head h w; suit = refl }) (outcome lines None head [] word) g)
 
 named_moves : (lines : List TextLine) (name : List ℕ) (word : Word) → IsNamed lines name → step (AfterName lines name) word ≢ Stuck → Moves (text_words lines ++ words.Name name ∷ []) word (step (AfterName lines name) word)
 named_moves lines name words.Colon h goes = record {
@@ -332,9 +398,22 @@ labelled_moves lines label words.Line h goes =
 labelled_moves lines label (words.Name name) h goes = labelled_word lines label name h goes
 labelled_moves lines label word h goes = absurd (goes refl)
 
+colon_moves : (lines : List TextLine) (label : Option (List ℕ)) (head : Head) (os : List Operand) (t : State) → IsBegun lines label head os → ColonOutcome lines label head os t → t ≢ Stuck → Moves (words_of (Behind lines label head os)) words.Colon t
+colon_moves lines _ _ _ _ h ArrayLabel goes = record {
+  right = array_labelled lines [] h;
+  spelled = sym (append_assoc (text_words lines) (words.Name (head_word heads.Array) ∷ []) (words.Colon ∷ []));
+}
+colon_moves lines _ _ _ _ h (NoLabel label head os) goes = absurd (goes refl)
+
 pub moves : (s : State) (word : Word) → IsRight s → step s word ≢ Stuck → Moves (words_of s) word (step s word)
 moves (Start lines) word h goes = start_moves lines word h goes
 moves (AfterName lines name) word h goes = named_moves lines name word h goes
 moves (AfterLabel lines label) word h goes = labelled_moves lines label word h goes
-moves (Behind lines label head os) word h goes = behind_moves lines label head os word (step (Behind lines label head os) word) h (outcome lines label head os word) goes
+moves (Behind lines label head os) words.Colon h goes = colon_moves lines label head os (at_colon lines label head os) h (colon_outcome lines label head os) goes
+moves (Behind lines label head os) (words.Name bytes) h goes = behind_moves lines label head os (words.Name bytes) (at_word (Behind lines label head os) (words.Name bytes)) h (outcome lines label head os (words.Name bytes)) goes
+moves (Behind lines label head os) (words.Number n) h goes = behind_moves lines label head os (words.Number n) (at_word (Behind lines label head os) (words.Number n)) h (outcome lines label head os (words.Number n)) goes
+moves (Behind lines label head os) words.Open h goes = behind_moves lines label head os words.Open (at_word (Behind lines label head os) words.Open) h (outcome lines label head os words.Open) goes
+moves (Behind lines label head os) words.Comma h goes = behind_moves lines label head os words.Comma (at_word (Behind lines label head os) words.Comma) h (outcome lines label head os words.Comma) goes
+moves (Behind lines label head os) words.Close h goes = behind_moves lines label head os words.Close (at_word (Behind lines label head os) words.Close) h (outcome lines label head os words.Close) goes
+moves (Behind lines label head os) words.Line h goes = behind_moves lines label head os words.Line (at_word (Behind lines label head os) words.Line) h (outcome lines label head os words.Line) goes
 moves Stuck word h goes = absurd h

@@ -8,7 +8,8 @@ use Rattle.std.proofs.lemmas.List.{append-nil, take-append-le, take_at}
 use Rattle.std.proofs.lemmas.List.Elements.{All-weaker, filter_map-append, Contains-push_cases}
 use Rattle.std.proofs.lemmas.Option.{slice_get_within}
 use Rattle.ven_io.specs.Tokens.{IsBehind}
-use Rattle.image_loader.specs.Table.{array_limit, instr_limit}
+use Rattle.venice_isa.specs.Limits.{instruction_limit}
+use Rattle.image_loader.specs.Table.{array_limit}
 use Rattle.venice_asm.specs.declared.head.Head.{Head}
 use Rattle.venice_asm.specs.declared.head.Head.TheVariants as heads
 use Rattle.venice_asm.specs.declared.head.Kind.{Kind}
@@ -47,7 +48,7 @@ keeps_kept text lines label old new k h = record {
   labels = k.code.labels ∙ h.labels;
   apart = h.apart;
   instrs = subst (AreInstrs lines) (sym k.code.instrs) h.instrs;
-  few = subst (λ is. length is ≤ instr_limit) (sym k.code.instrs) h.few;
+  few = subst (λ is. length is ≤ instruction_limit) (sym k.code.instrs) h.few;
   references = subst (AreReferences text lines) (sym k.code.references) h.references;
 }
 
@@ -68,7 +69,7 @@ pub keeps_push : (text : List ℕ) (lines : List TextLine) (label : Option (List
     → new.array_count ≡ min (length (entries_of (lines ++ (record { label = label; statement = statement }) ∷ []))) (array_limit + 1)
     → new.labels.entries ≡ old.labels.entries
     → AreInstrs (lines ++ (record { label = label; statement = statement }) ∷ []) new.instrs.items
-    → length new.instrs.items ≤ instr_limit
+    → length new.instrs.items ≤ instruction_limit
     → AreReferences text (lines ++ (record { label = label; statement = statement }) ∷ []) new.references.items
     → Keeps text (lines ++ (record { label = label; statement = statement }) ∷ []) None new
 keeps_push text lines label statement old new h ranges version section spad memory arrays count labels instrs few references =
@@ -359,11 +360,7 @@ ranks_of head section next e = absurd (none_some next e)
 
 pub label_up : (label : Option (List ℕ)) (section next : Section) → behind_label label section ≡ Some next → rank section ≤ rank next
 label_up None section next e = let same = ap rank (some_is section next e) in omega arith
-label_up (Some name) sections.Arrays next e = by (bytes_eq name (head_word heads.Array)) e
-  where
-    by : (b : Bool) → (if b then None else Some sections.Code) ≡ Some next → 3 ≤ rank next
-    by true f = absurd (none_some next f)
-    by false f = let same = ap rank (some_is sections.Code next f) in omega arith
+label_up (Some name) sections.Arrays next e = let same = ap rank (some_is sections.Code next e) in omega arith
 label_up (Some name) sections.Code next e = let same = ap rank (some_is sections.Code next e) in omega arith
 label_up (Some name) section next e = absurd (none_some next e)
 

@@ -5,7 +5,8 @@ use Rattle.std.specs.List.{list_any, cons_option}
 use Rattle.std.specs.Option.{option_and_then}
 use Rattle.std.proofs.lemmas.Bool.{cases_lt}
 use Rattle.std.proofs.lemmas.List.{append-nil, take-append-le}
-use Rattle.image_loader.specs.Table.{RawEntry, array_limit, instr_limit}
+use Rattle.venice_isa.specs.Limits.{instruction_limit}
+use Rattle.image_loader.specs.Table.{RawEntry, array_limit}
 use Rattle.venice_isa.specs.declared.instr.Version.{Version}
 use Rattle.venice_isa.specs.declared.instr.Version.TheVariants.{One, Two}
 use Rattle.venice_asm.specs.declared.head.Head.{Head}
@@ -91,7 +92,7 @@ pub record IsWholeLine (text : List ℕ) (lines : List TextLine) (label : Option
   pub suit : all_suit (version_of lines) (head_kinds head) list ≡ true
   pub operands : AreOperands text lines label head list last_at
   pub keeps : Keeps text lines label old
-  pub room : is_instr head ≡ true → length old.instrs.items < instr_limit
+  pub room : is_instr head ≡ true → length old.instrs.items < instruction_limit
 
 abbrev pub line_with : Option (List ℕ) → Head → List Operand → TextLine
 line_with label head list = record { label = label; statement = Some (record { head = head; operands = list }) }
@@ -153,7 +154,7 @@ version_ends text lines label list last_at old new w (version, labels, instrs, r
     (count_stays text lines label heads.Version list old new.array_count refl h table.array_count)
     labels
     (instrs_stay lines label heads.Version list old new refl h.instrs instrs)
-    (subst (λ is. length is ≤ instr_limit) (sym instrs) h.few)
+    (subst (λ is. length is ≤ instruction_limit) (sym instrs) h.few)
     (references_stay text lines label heads.Version list old new refl h.references references)
   where
     or_true : (b : Bool) → (b || true) ≡ true
@@ -195,7 +196,7 @@ spad_ends text lines label list last_at old new w os (code, section, spad, memor
     (count_stays text lines label heads.Spad list old new.array_count refl h count)
     code.labels
     (instrs_stay lines label heads.Spad list old new refl h.instrs code.instrs)
-    (subst (λ is. length is ≤ instr_limit) (sym code.instrs) h.few)
+    (subst (λ is. length is ≤ instruction_limit) (sym code.instrs) h.few)
     (references_stay text lines label heads.Spad list old new refl h.references code.references)
 
 memory_ends : (text : List ℕ) (lines : List TextLine) (label : Option (List ℕ)) (list : List Operand) (last_at : ℕ) (old new : Reading) → IsWholeLine text lines label heads.Memory list last_at old → old.operands.items ≡ list → EndsHead heads.Memory last_at old new → Keeps text (lines ++ line_with label heads.Memory list ∷ []) None new
@@ -211,7 +212,7 @@ memory_ends text lines label list last_at old new w os (code, section, memory, s
     (count_stays text lines label heads.Memory list old new.array_count refl h count)
     code.labels
     (instrs_stay lines label heads.Memory list old new refl h.instrs code.instrs)
-    (subst (λ is. length is ≤ instr_limit) (sym code.instrs) h.few)
+    (subst (λ is. length is ≤ instruction_limit) (sym code.instrs) h.few)
     (references_stay text lines label heads.Memory list old new refl h.references code.references)
 
 -- ---- arrays
@@ -252,7 +253,7 @@ array_ends text lines label list last_at old new w os adds = by (array_of heads.
         count
         code.labels
         (instrs_stay lines label heads.Array list old new refl h.instrs code.instrs)
-        (subst (λ is. length is ≤ instr_limit) (sym code.instrs) h.few)
+        (subst (λ is. length is ≤ instruction_limit) (sym code.instrs) h.few)
         (references_stay text lines label heads.Array list old new refl h.references code.references)
       where
         at_arrays : (section next : Section) → behind_head heads.Array section ≡ Some next → section ≡ sections.Arrays
@@ -448,7 +449,7 @@ instr_ends text lines label head list last_at old new instr w os a =
     (count_stays text lines label head list old new.array_count (instr_no_array head instr) h a.table.array_count)
     a.labels
     (subst (AreInstrs (lines ++ line_with label head list ∷ [])) (sym a.instrs) grown)
-    (subst (λ is. length is ≤ instr_limit) (sym a.instrs) (let count = length-append old.instrs.items (a.instr ∷ []) in omega arith))
+    (subst (λ is. length is ≤ instruction_limit) (sym a.instrs) (let count = length-append old.instrs.items (a.instr ∷ []) in omega arith))
     (references_now (is_jump head) refl)
   where
     references_now : (b : Bool) → is_jump head ≡ b → AreReferences text (lines ++ line_with label head list ∷ []) new.references.items

@@ -77,11 +77,7 @@ follows_head head section next e = absurd (none_some next e)
 
 label_later : (label : Option (List ℕ)) (section next : Section) → behind_label label section ≡ Some next → (next ≡ section) ⊎ ((is_later section ≡ true) × (is_later next ≡ true))
 label_later None section next e = inl (sym (some_is section next e))
-label_later (Some name) sections.Arrays next e = inr (refl, by (bytes_eq name (head_word heads.Array)) e)
-  where
-    by : (b : Bool) → (if b then None else Some sections.Code) ≡ Some next → is_later next ≡ true
-    by true f = absurd (none_some next f)
-    by false f = later_is sections.Code next f refl
+label_later (Some name) sections.Arrays next e = inr (refl, later_is sections.Code next e refl)
 label_later (Some name) sections.Code next e = inr (refl, later_is sections.Code next e refl)
 label_later (Some name) section next e = absurd (none_some next e)
 

@@ -1,20 +1,45 @@
 -- The spellings are names.
-use Rattle.std.proofs.Common.{◌≡◌, ℕ, zero, suc, ◌+◌, ◌*◌, ◌<◌, ◌≤◌, ◌^◌, ◌%◌, Bool, true, false, List, [], ◌∷◌, length, refl, arith, length-append}
+use Rattle.std.proofs.Common.{◌≡◌, ◌↔◌, IsTrue, ℕ, zero, suc, ◌+◌, ◌*◌, ◌<◌, ◌≤◌, ◌^◌, ◌%◌, Bool, true, false, List, [], ◌∷◌, length, refl, arith, length-append}
 use Rattle.std.specs.Prelude.{decimal}
-use Rattle.std.specs.List.{list_all}
+use Rattle.std.specs.List.{list_all, list_any}
+use Rattle.std.specs.Str.{bytes_eq}
 use Rattle.std.proofs.lemmas.Bool.{and_from, and_parts}
 use Rattle.std.proofs.lemmas.Bool.Decides.{nat_tests}
 use Rattle.std.proofs.lemmas.Fmt.{decimal_by_steps}
 use Rattle.ven_base.specs.declared.elem.Elem.{Elem}
 use Rattle.ven_base.specs.declared.elem.Elem.TheVariants.{U8, I8, U16, I16, U32, I32}
-use Rattle.ven_base.specs.Name.{is_digit, is_name_byte}
+use Rattle.ven_base.specs.Name.{is_digit, is_name_byte, reserved_words, IsReserved}
+use Rattle.ven_base.proofs.Words.{any_is-Contains}
 use Rattle.venice_isa.specs.declared.op.VecOp.{VecOp}
 use Rattle.venice_isa.specs.declared.op.VecOp.TheVariants as ops
 use Rattle.venice_asm.specs.declared.head.Head.{Head}
 use Rattle.venice_asm.specs.declared.head.Head.TheVariants as heads
 use Rattle.venice_asm.specs.Label.{IsLabel}
+use Rattle.venice_asm.specs.Lines.{is_reserved}
 use Rattle.venice_asm.specs.Spelling.{head_word, type_word, operation_word, parameter_word, direction_word, transfer_word, register_word, letter, sum_word}
 use Rattle.venice_asm.proofs.Spelled.{spelled}
+
+-- ---- reserved words
+
+pub reserved_is : (r : Bool) (bytes : List ℕ) → IsTrue r ↔ IsReserved bytes → r ≡ is_reserved bytes
+unfolding is_reserved
+reserved_is r bytes h = by r (list_any (bytes_eq bytes) reserved_words) (any_is-Contains (list_any (bytes_eq bytes) reserved_words) bytes reserved_words refl) h
+  where
+    by : (a b : Bool) → IsTrue b ↔ IsReserved bytes → IsTrue a ↔ IsReserved bytes → a ≡ b
+    by true true f g = refl
+    by false false f g = refl
+    by true false f g = let e : false ≡ true = f.1 (g.0 refl) in absurd (cc)
+    by false true f g = let e : false ≡ true = g.1 (f.0 refl) in absurd (cc)
+
+pub not_reserved : (bytes : List ℕ) → ¬ IsReserved bytes → is_reserved bytes ≡ false
+unfolding is_reserved
+not_reserved bytes free = by (list_any (bytes_eq bytes) reserved_words) (any_is-Contains (list_any (bytes_eq bytes) reserved_words) bytes reserved_words refl)
+  where
+    by : (b : Bool) → IsTrue b ↔ IsReserved bytes → b ≡ false
+    by true f = absurd (free (f.0 refl))
+    by false f = refl
+
+-- ---- names
 
 pub head_label : (head : Head) → IsLabel (head_word head)
 head_label heads.Version = record { token = (refl, refl); short = omega arith }

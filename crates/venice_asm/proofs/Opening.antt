@@ -7,7 +7,7 @@ use Rattle.ven_io.specs.declared.token.TokenFault.{TokenFault}
 use Rattle.ven_io.specs.Reader.{run_from}
 use Rattle.ven_io.specs.Tokens.{IsBehind, TokensTo, Here, Passed, Taken}
 use Rattle.ven_io.proofs.Readers.{run_on}
-use Rattle.image_loader.specs.Table.{instr_limit}
+use Rattle.venice_isa.specs.Limits.{instruction_limit}
 use Rattle.venice_asm.specs.declared.head.Head.{Head}
 use Rattle.venice_asm.specs.declared.head.Head.TheVariants as heads
 use Rattle.venice_asm.specs.declared.operand.Operand.{Operand}
@@ -19,14 +19,14 @@ use Rattle.venice_asm.specs.declared.word.Word.TheVariants as words
 use Rattle.venice_asm.specs.Faults.{BeginsWith, seen}
 use Rattle.venice_asm.specs.Lines.{Statement, TextLine, is_instr, behind_label, behind_head, behind_statement, section_from, section_of, has_sizes, version_of}
 use Rattle.venice_asm.specs.Meaning.{instrs_of, labels_from, label_names}
-use Rattle.venice_asm.specs.Reading.{instr_named, heads_at, State, Start, AfterName, AfterLabel, Behind, Stuck, at_start, step, run}
+use Rattle.venice_asm.specs.Reading.{instr_named, heads_at, State, Start, AfterName, AfterLabel, Behind, Stuck, at_start, at_colon, step, run}
 use Rattle.venice_asm.specs.Spelling.{head_word, operand_word, keyword_among}
 use Rattle.venice_asm.specs.Words.{language}
 use Rattle.venice_asm.proofs.Ahead.{next_word}
-use Rattle.venice_asm.proofs.Cleanness.{IsFew, StepTo, EmptyLine, HeadBegins, NameBegins, Labels, InstrBegins, LabelLine, LabelInstr, Goes, Sticks, step_to, outcome_few}
-use Rattle.venice_asm.proofs.Following.{Outcome, Ended, Grown, Unfit, outcome, instr_word, sized, IsSized, AtArrays, AtCode}
+use Rattle.venice_asm.proofs.Cleanness.{IsFew, StepTo, EmptyLine, HeadBegins, NameBegins, Labels, InstrBegins, LabelLine, LabelInstr, Goes, ArrayLabels, Sticks, step_to, outcome_few}
+use Rattle.venice_asm.proofs.Following.{ColonOutcome, ArrayLabel, NoLabel, colon_outcome, instr_word, sized, IsSized, AtArrays, AtCode}
 use Rattle.venice_asm.proofs.Lining.{no_section, section_behind, gives}
-use Rattle.venice_asm.proofs.Operands.{operand_said}
+use Rattle.venice_asm.proofs.Operands.{keyword_said}
 use Rattle.venice_asm.proofs.Registers.{none_some, some_is}
 use Rattle.venice_asm.proofs.Sentences.{starts_label}
 
@@ -74,28 +74,9 @@ begins_same text tokens next word rest h b = next_word text tokens next word res
 
 -- ---- the first words of lines
 
-no_colon : (o : Operand) → operand_word o ≢ words.Colon
-no_colon (operands.Name bytes) e = absurd (cc)
-no_colon (operands.Number n) e = absurd (cc)
-no_colon (operands.Output b) e = absurd (cc)
-no_colon operands.Open e = absurd (cc)
-no_colon (operands.Rows n) e = absurd (cc)
-no_colon operands.Comma e = absurd (cc)
-no_colon (operands.Columns n) e = absurd (cc)
-no_colon operands.Close e = absurd (cc)
-no_colon (operands.Register n) e = absurd (cc)
-no_colon (operands.Parameter n) e = absurd (cc)
-no_colon (operands.Write b) e = absurd (cc)
-no_colon (operands.Operation op) e = absurd (cc)
-no_colon (operands.Elem elem) e = absurd (cc)
-no_colon (operands.ModeA a) e = absurd (cc)
-no_colon (operands.ModeAB a b) e = absurd (cc)
-no_colon operands.Sum e = absurd (cc)
-
-colon_stuck : (lines : List TextLine) (label : Option (List ℕ)) (head : Head) (os : List Operand) (t : State) → Outcome lines label head os words.Colon t → t ≡ Stuck
-colon_stuck lines label head os _ (Ended is ends) = absurd (cc)
-colon_stuck lines label head os _ (Grown kind more o left is) = absurd (no_colon o (operand_said (version_of lines) kind words.Colon o is).word_is)
-colon_stuck lines label head os _ Unfit = refl
+head_colon : (lines : List TextLine) (name : List ℕ) (head : Head) (t : State) → keyword_among head_word (heads_at (section_of lines)) name ≡ Some head → ColonOutcome lines None head [] t → (t ≡ AfterLabel lines name) ⊎ (t ≡ Stuck)
+head_colon lines name _ _ is ArrayLabel = inl (ap (λ n. AfterLabel lines n) (keyword_said head_word (heads_at (section_of lines)) name heads.Array is))
+head_colon lines name _ _ is (NoLabel label head os) = inr refl
 
 -- a name with a `:` behind it leads to a label, or can't go on
 pub label_or_stuck : (lines : List TextLine) (name : List ℕ) (t : State) → StepTo (Start lines) (words.Name name) t → (step t words.Colon ≡ AfterLabel lines name) ⊎ (step t words.Colon ≡ Stuck)
@@ -106,13 +87,18 @@ label_or_stuck lines name t h = by (Start lines) (words.Name name) t h refl refl
 
     by : (s : State) (w : Word) (u : State) → StepTo s w u → s ≡ Start lines → w ≡ words.Name name → (step u words.Colon ≡ AfterLabel lines name) ⊎ (step u words.Colon ≡ Stuck)
     by _ _ _ (EmptyLine ls) e f = absurd (cc)
-    by _ _ _ (HeadBegins ls n head is) e f = inr (colon_stuck ls None head [] (step (Behind ls None head []) words.Colon) (outcome ls None head [] words.Colon))
+    by _ _ _ (HeadBegins ls n head is) e f = which (head_colon ls n head (at_colon ls None head []) is (colon_outcome ls None head []))
+      where
+        which : (at_colon ls None head [] ≡ AfterLabel ls n) ⊎ (at_colon ls None head [] ≡ Stuck) → (step (Behind ls None head []) words.Colon ≡ AfterLabel lines name) ⊎ (step (Behind ls None head []) words.Colon ≡ Stuck)
+        which (inl there) = inl (there ∙ ap (λ l. AfterLabel l n) (same_lines ls lines e) ∙ ap (λ m. AfterLabel lines m) (name_is n name f))
+        which (inr stuck) = inr stuck
     by _ _ _ (NameBegins ls n is sizes) e f = inl (ap (λ l. AfterLabel l n) (same_lines ls lines e) ∙ ap (λ m. AfterLabel lines m) (name_is n name f))
     by _ _ _ (Labels ls n) e f = absurd (cc)
     by _ _ _ (InstrBegins ls n head w2 u2 other is g) e f = absurd (cc)
     by _ _ _ (LabelLine ls n) e f = absurd (cc)
     by _ _ _ (LabelInstr ls n w2 head is) e f = absurd (cc)
     by _ _ _ (Goes ls label head os w2 u2 g) e f = absurd (cc)
+    by _ _ _ (ArrayLabels ls) e f = absurd (cc)
     by _ _ _ (Sticks s2 w2) e f = inr refl
 
 pub instr_no_head : (section : Option Section) (head : Head) → IsSized section → is_instr head ≡ true → keyword_among head_word (heads_at section) (head_word head) ≡ None
@@ -163,31 +149,32 @@ instr_starts lines head sizes instr =
     ∙ ap (λ b. if b then AfterName lines (head_word head) else Stuck) sizes
 
 -- an instruction that has begun has room
-instr_room : (lines : List TextLine) (label : Option (List ℕ)) (name : List ℕ) (head : Head) (os : List Operand) → instr_named (version_of lines) name ≡ Some head → IsFew (Behind lines label head os) → length (instrs_of lines) < instr_limit
+instr_room : (lines : List TextLine) (label : Option (List ℕ)) (name : List ℕ) (head : Head) (os : List Operand) → instr_named (version_of lines) name ≡ Some head → IsFew (Behind lines label head os) → length (instrs_of lines) < instruction_limit
 instr_room lines label name head os is few = few.1 (instr_word (version_of lines) name head is).instr
 
-pub named_room : (lines : List TextLine) (name : List ℕ) (word : Word) → word ≢ words.Colon → IsFew (step (AfterName lines name) word) → length (instrs_of lines) < instr_limit
+pub named_room : (lines : List TextLine) (name : List ℕ) (word : Word) → word ≢ words.Colon → IsFew (step (AfterName lines name) word) → length (instrs_of lines) < instruction_limit
 named_room lines name word other few = by (AfterName lines name) word (step (AfterName lines name) word) (step_to (AfterName lines name) word) refl other few
   where
     same_lines : (a b : List TextLine) (n m : List ℕ) → AfterName a n ≡ AfterName b m → a ≡ b
     same_lines a b n m e = cc
 
-    by : (s : State) (w : Word) (u : State) → StepTo s w u → s ≡ AfterName lines name → w ≢ words.Colon → IsFew u → length (instrs_of lines) < instr_limit
+    by : (s : State) (w : Word) (u : State) → StepTo s w u → s ≡ AfterName lines name → w ≢ words.Colon → IsFew u → length (instrs_of lines) < instruction_limit
     by _ _ _ (EmptyLine ls) e f g = absurd (cc)
     by _ _ _ (HeadBegins ls n head is) e f g = absurd (cc)
     by _ _ _ (NameBegins ls n is sizes) e f g = absurd (cc)
     by _ _ _ (Labels ls n) e f g = absurd (f refl)
     by _ _ _ (InstrBegins ls n head w2 u2 other2 is o) e f g =
-        subst (λ l. length (instrs_of l) < instr_limit) (same_lines ls lines n name e) (instr_room ls None n head [] is (outcome_few ls None head [] w2 u2 o g))
+        subst (λ l. length (instrs_of l) < instruction_limit) (same_lines ls lines n name e) (instr_room ls None n head [] is (outcome_few ls None head [] w2 u2 o g))
     by _ _ _ (LabelLine ls n) e f g = absurd (cc)
     by _ _ _ (LabelInstr ls n w2 head is) e f g = absurd (cc)
     by _ _ _ (Goes ls label head os w2 u2 o) e f g = absurd (cc)
+    by _ _ _ (ArrayLabels ls) e f g = absurd (cc)
     by _ _ _ (Sticks s2 w2) e f g = absurd g
 
-pub labelled_room : (lines : List TextLine) (label name : List ℕ) → IsFew (step (AfterLabel lines label) (words.Name name)) → length (instrs_of lines) < instr_limit
+pub labelled_room : (lines : List TextLine) (label name : List ℕ) → IsFew (step (AfterLabel lines label) (words.Name name)) → length (instrs_of lines) < instruction_limit
 labelled_room lines label name few = by (instr_named (version_of lines) name) refl few
   where
-    by : (found : Option Head) → instr_named (version_of lines) name ≡ found → IsFew (option_map_or (λ (head : Head). Behind lines (Some label) head []) found Stuck) → length (instrs_of lines) < instr_limit
+    by : (found : Option Head) → instr_named (version_of lines) name ≡ found → IsFew (option_map_or (λ (head : Head). Behind lines (Some label) head []) found Stuck) → length (instrs_of lines) < instruction_limit
     by None is g = absurd g
     by (Some head) is g = instr_room lines (Some label) name head [] is g
 
@@ -265,6 +252,6 @@ no_name_in_nothing name names e (k, lt, is) = let none : length names ≡ 0 = ap
 -- the fault of a name at the start of a line, which what stands behind it decides
 pub data IsPending (text : List ℕ) (tokens : List Word) : Type 0 where
   TooManyName : (lines : List TextLine) (name : List ℕ) (head : Head) → run tokens ≡ AfterName lines name → instr_named (version_of lines) name ≡ Some head
-      → length (instrs_of lines) ≡ instr_limit → ¬ BeginsWith text (tokens ++ words.Colon ∷ []) → IsPending text tokens
+      → length (instrs_of lines) ≡ instruction_limit → ¬ BeginsWith text (tokens ++ words.Colon ∷ []) → IsPending text tokens
   TwiceName : (lines : List TextLine) (name : List ℕ) → run tokens ≡ AfterName lines name → Contains (label_names lines) name
       → BeginsWith text (tokens ++ words.Colon ∷ []) → IsPending text tokens

@@ -1,6 +1,6 @@
 -- Which operand a word is, both ways.
 use Rattle.std.proofs.Common.{◌≡◌, ℕ, zero, suc, ◌+◌, ◌-◌, ◌<◌, ◌≤◌, Bool, true, false, List, [], ◌∷◌, length, get_or, Option, Some, None, refl, sym, ap, subst, ◌∙◌, arith}
-use Rattle.std.specs.Prelude.{nat_lt, if◌then◌else◌, ◌==◌}
+use Rattle.std.specs.Prelude.{nat_lt, if◌then◌else◌, ◌==◌, not}
 use Rattle.std.specs.Option.{option_map, option_and_then}
 use Rattle.std.specs.Str.{bytes_eq}
 use Rattle.std.proofs.lemmas.Bool.Decides.{nat_tests}
@@ -19,7 +19,7 @@ use Rattle.venice_asm.specs.declared.operand.Operand.TheVariants as operands
 use Rattle.venice_asm.specs.declared.word.Word.{Word}
 use Rattle.venice_asm.specs.declared.word.Word.TheVariants as words
 use Rattle.venice_asm.specs.Fitting.{number_from, parameter_named, one_named, scalar_named, register_named, in_version, operation_named, one_letter, two_letters, name_operand, number_operand, operand_as}
-use Rattle.venice_asm.specs.Lines.{suits}
+use Rattle.venice_asm.specs.Lines.{is_reserved, suits}
 use Rattle.venice_asm.specs.Spelling.{keyword_among, operand_word, parameter_words, parameter_word, direction_word, transfer_word, letter, sum_word, operation_word, type_word}
 use Rattle.venice_asm.proofs.Registers.{none_some, some_is, register_read, register_said}
 
@@ -72,10 +72,14 @@ type_read I16 = refl
 type_read U32 = refl
 type_read I32 = refl
 
+free_read : (bytes : List ℕ) (t : Bool) → not t ≡ true → (if t then None else Some (operands.Name bytes)) ≡ Some (operands.Name bytes)
+free_read bytes true h = let e : false ≡ true = h in absurd (cc)
+free_read bytes false h = refl
+
 pub operand_read : (version : Version) (kind : Kind) (operand : Operand) → suits version kind operand ≡ true → operand_as version kind (operand_word operand) ≡ Some operand
 operand_read version kinds.Version (operands.Number n) h = refl
 operand_read version kinds.Number (operands.Number n) h = refl
-operand_read version kinds.Array (operands.Name bytes) h = refl
+operand_read version kinds.Array (operands.Name bytes) h = free_read bytes (is_reserved bytes) h
 operand_read version kinds.Direction (operands.Output false) h = refl
 operand_read version kinds.Direction (operands.Output true) h = refl
 operand_read version kinds.Open operands.Open h = refl
@@ -241,8 +245,12 @@ sum_said bytes operand e = by (bytes_eq bytes sum_word) refl e
     by true is f = (some_is operands.Sum operand f, sym (same_bytes bytes sum_word is))
     by false is f = absurd (none_some operand f)
 
+array_said : (version : Version) (bytes : List ℕ) (operand : Operand) (t : Bool) → is_reserved bytes ≡ t → (if t then None else Some (operands.Name bytes)) ≡ Some operand → IsSaid version kinds.Array (words.Name bytes) operand
+array_said version bytes operand true is e = absurd (none_some operand e)
+array_said version bytes operand false is e = said version kinds.Array (words.Name bytes) (operands.Name bytes) operand e (record { suits_it = ap not is; word_is = refl })
+
 name_said : (version : Version) (kind : Kind) (bytes : List ℕ) (operand : Operand) → name_operand version kind bytes ≡ Some operand → IsSaid version kind (words.Name bytes) operand
-name_said version kinds.Array bytes operand e = said version kinds.Array (words.Name bytes) (operands.Name bytes) operand e (record { suits_it = refl; word_is = refl })
+name_said version kinds.Array bytes operand e = array_said version bytes operand (is_reserved bytes) refl e
 name_said version kinds.Target bytes operand e = said version kinds.Target (words.Name bytes) (operands.Name bytes) operand e (record { suits_it = refl; word_is = refl })
 name_said version kinds.Direction bytes operand e = said_by version kinds.Direction bytes operand operands.Output (one_named bytes (direction_word false) (direction_word true)) e (λ b is. record { suits_it = refl; word_is = ap words.Name (direction_said bytes b is) })
 name_said version kinds.Transfer bytes operand e = said_by version kinds.Transfer bytes operand operands.Write (one_named bytes (transfer_word false) (transfer_word true)) e (λ b is. record { suits_it = refl; word_is = ap words.Name (transfer_said bytes b is) })

@@ -3,7 +3,7 @@ use Rattle.std.proofs.Common.{◌≡◌, ◌≢◌, ℕ, true, false, List, [], 
 use Rattle.std.specs.Prelude.{if◌then◌else◌}
 use Rattle.std.specs.Option.{option_map_or, option_and_then}
 use Rattle.std.proofs.lemmas.List.{append-nil}
-use Rattle.image_loader.specs.Table.{instr_limit}
+use Rattle.venice_isa.specs.Limits.{instruction_limit}
 use Rattle.venice_isa.specs.declared.instr.Version.{Version}
 use Rattle.venice_asm.specs.declared.head.Head.{Head}
 use Rattle.venice_asm.specs.declared.operand.Operand.{Operand}
@@ -18,7 +18,7 @@ use Rattle.venice_asm.specs.Reading.{instr_named, heads_at, kinds_left, State, S
 use Rattle.venice_asm.specs.Spelling.{head_word, keyword_among}
 use Rattle.venice_asm.specs.Fitting.{operand_as}
 use Rattle.venice_asm.specs.Steps.{Keeps, IsPlaceBehind}
-use Rattle.venice_asm.proofs.Following.{no_label, operand_step, IsNamed as IsNamedRight}
+use Rattle.venice_asm.proofs.Following.{no_label, operand_at, IsNamed as IsNamedRight}
 use Rattle.venice_asm.proofs.Registers.{none_some}
 use Rattle.std.specs.Prelude.{Result}
 use Rattle.ven_io.specs.declared.token.Token.{Token}
@@ -31,7 +31,7 @@ use Rattle.venice_asm.specs.Faults.{BeginsWith, seen, NoLines, IsRefused, IsAnsw
 use Rattle.venice_asm.specs.Fitting.{IsOutside}
 use Rattle.venice_asm.specs.Lines.{label_words, text_words}
 use Rattle.venice_asm.specs.Moves.{BeginsNothing, IsFull, RefusesBehindLabel, IsMisplaced, FitsNone, RefusesBehind}
-use Rattle.venice_asm.specs.Reading.{with_instr, at_kinds, run}
+use Rattle.venice_asm.specs.Reading.{with_instr, at_kinds, at_word, run}
 use Rattle.venice_asm.specs.Words.{language}
 use Rattle.venice_asm.proofs.Cleanness.{IsClean}
 use Rattle.venice_asm.specs.Lines.{AreLines}
@@ -69,7 +69,7 @@ begins_nothing lines section words.Close is n = refl
 
 -- ---- operands
 
-pub misplaced_step : (lines : List TextLine) (label : Option (List ℕ)) (head : Head) (r : Reading) (word : Word) → r.version ≡ version_of lines → IsMisplaced head word r → step (Behind lines label head r.operands.items) word ≡ Stuck
+pub misplaced_step : (lines : List TextLine) (label : Option (List ℕ)) (head : Head) (r : Reading) (word : Word) → r.version ≡ version_of lines → IsMisplaced head word r → at_word (Behind lines label head r.operands.items) word ≡ Stuck
 misplaced_step lines label head r words.Line same m = ap (λ b. if b then with_line lines label (Some (record { head = head; operands = r.operands.items })) else Stuck) (m.ends refl)
 misplaced_step lines label head r word same m = by (kinds_left (head_kinds head) r.operands.items) refl m.none
   where
@@ -80,8 +80,8 @@ misplaced_step lines label head r word same m = by (kinds_left (head_kinds head)
         ∙ ap (λ (o : Option Operand). option_map_or (λ (x : Operand). Behind lines label head (r.operands.items ++ x ∷ [])) o Stuck) (ap (λ v. operand_as v kind word) (sym same) ∙ none)
 
 -- the operand there is out of its range
-outside_step : (lines : List TextLine) (label : Option (List ℕ)) (head : Head) (r : Reading) (word : Word) (kind : Kind) (more : List Kind) → r.version ≡ version_of lines → kinds_left (head_kinds head) r.operands.items ≡ kind ∷ more → (o : IsOutside r.version kind word) → step (Behind lines label head r.operands.items) word ≡ Behind lines label head (r.operands.items ++ o.operand ∷ [])
-outside_step lines label head r word kind more same left o = operand_step lines label head r.operands.items kind more word o.operand left (ap (λ v. operand_as v kind word) (sym same) ∙ o.is)
+outside_step : (lines : List TextLine) (label : Option (List ℕ)) (head : Head) (r : Reading) (word : Word) (kind : Kind) (more : List Kind) → r.version ≡ version_of lines → kinds_left (head_kinds head) r.operands.items ≡ kind ∷ more → (o : IsOutside r.version kind word) → at_word (Behind lines label head r.operands.items) word ≡ Behind lines label head (r.operands.items ++ o.operand ∷ [])
+outside_step lines label head r word kind more same left o = operand_at lines label head r.operands.items kind more word o.operand left (ap (λ v. operand_as v kind word) (sym same) ∙ o.is)
 
 outside_ranged : (lines : List TextLine) (label : Option (List ℕ)) (head : Head) (r : Reading) (word : Word) (kind : Kind) (more : List Kind) → kinds_left (head_kinds head) r.operands.items ≡ kind ∷ more → (o : IsOutside r.version kind word) → IsRanged (Behind lines label head (r.operands.items ++ o.operand ∷ [])) → ⊥
 outside_ranged lines label head r word kind more left o ranged =
@@ -100,7 +100,7 @@ no_line version kind words.Close operand is e = absurd (cc)
 
 -- behind a line's first word, in a state that is the reader's
 pub refused_behind : (text : List ℕ) (tokens : List Word) (next : Result Token TokenFault) (word : Word) (lines : List TextLine) (label : Option (List ℕ)) (head : Head) (r : Reading) (fault : AsmFault) → IsBehind language text tokens next → IsClean (run tokens) → (IsPending text tokens → ⊥) → seen text next ≡ Some word → r.version ≡ version_of lines
-    → step (run tokens) word ≡ step (Behind lines label head r.operands.items) word → RefusesBehind head word (place_of next) r fault → IsAnswered text fault
+    → step (run tokens) word ≡ at_word (Behind lines label head r.operands.items) word → RefusesBehind head word (place_of next) r fault → IsAnswered text fault
 refused_behind text tokens next word lines label head r (answers.Unexpected place) behind clean settled sees same is (at, m) =
     subst (λ p. IsRefused text (answers.Unexpected p)) (sym at) (stuck_word text tokens next word behind clean settled sees (is ∙ misplaced_step lines label head r word same m))
 refused_behind text tokens next word lines label head r (answers.FieldRange place) behind clean settled sees same is (at, (kind, more, left, o)) =
@@ -116,7 +116,7 @@ refused_behind text tokens next word lines label head r answers.NoHalt behind cl
 
 -- ---- behind a label
 
-pub full_of : (text : List ℕ) (lines : List TextLine) (label : Option (List ℕ)) (r : Reading) (name : List ℕ) → Keeps text lines label r → IsFull r name → length (instrs_of lines) ≡ instr_limit
+pub full_of : (text : List ℕ) (lines : List TextLine) (label : Option (List ℕ)) (r : Reading) (name : List ℕ) → Keeps text lines label r → IsFull r name → length (instrs_of lines) ≡ instruction_limit
 full_of text lines label r name h f = let count = h.instrs.count in let few = h.few in let full = f.full in omega arith
 
 pub named_now : (text : List ℕ) (lines : List TextLine) (label : Option (List ℕ)) (r : Reading) (name : List ℕ) → Keeps text lines label r → (f : IsFull r name) → instr_named (version_of lines) name ≡ Some f.head
@@ -182,9 +182,9 @@ name_goes lines name h =
     ∙ ap (λ b. if b then AfterName lines name else Stuck) h.sizes
 
 -- no fault of the name waits for what stands behind it
-pub settled_name : (text : List ℕ) (tokens : List Word) (next : Result Token TokenFault) (lines : List TextLine) (opening : Opening) (r : Reading) → IsAfterName text tokens next lines opening r → seen text next ≢ Some words.Colon → ((head : Head) → instr_named (version_of lines) opening.name ≡ Some head → length (instrs_of lines) ≡ instr_limit → ⊥) → IsPending text tokens → ⊥
+pub settled_name : (text : List ℕ) (tokens : List Word) (next : Result Token TokenFault) (lines : List TextLine) (opening : Opening) (r : Reading) → IsAfterName text tokens next lines opening r → seen text next ≢ Some words.Colon → ((head : Head) → instr_named (version_of lines) opening.name ≡ Some head → length (instrs_of lines) ≡ instruction_limit → ⊥) → IsPending text tokens → ⊥
 settled_name text tokens next lines opening r n other room (TooManyName ls name head at named full none) =
-    room head (subst (λ l. instr_named (version_of l) opening.name ≡ Some head) (sym (same_lines (sym n.at ∙ at))) (subst (λ m. instr_named (version_of ls) m ≡ Some head) (sym (same_names (sym n.at ∙ at))) named)) (subst (λ l. length (instrs_of l) ≡ instr_limit) (sym (same_lines (sym n.at ∙ at))) full)
+    room head (subst (λ l. instr_named (version_of l) opening.name ≡ Some head) (sym (same_lines (sym n.at ∙ at))) (subst (λ m. instr_named (version_of ls) m ≡ Some head) (sym (same_names (sym n.at ∙ at))) named)) (subst (λ l. length (instrs_of l) ≡ instruction_limit) (sym (same_lines (sym n.at ∙ at))) full)
   where
     same_lines : {m : List ℕ} {l : List TextLine} → AfterName lines opening.name ≡ AfterName l m → lines ≡ l
     same_lines e = cc

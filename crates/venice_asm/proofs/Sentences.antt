@@ -10,6 +10,7 @@ use Rattle.std.proofs.lemmas.List.Folds.{list_any-append}
 use Rattle.std.proofs.lemmas.List.Elements.{All-nil, All-push, All-take, All-contains, Contains-append_right, Contains-push, filter_map-append}
 use Rattle.ven_io.specs.Reader.{run_from, Follows}
 use Rattle.ven_io.proofs.Readers.{run_on, begins_iff}
+use Rattle.ven_base.proofs.Words.{same_bytes}
 use Rattle.venice_isa.specs.declared.instr.Version.{Version}
 use Rattle.venice_isa.specs.declared.instr.Version.TheVariants.{One, Two}
 use Rattle.venice_asm.specs.declared.head.Head.{Head}
@@ -23,9 +24,9 @@ use Rattle.venice_asm.specs.declared.word.Word.{Word}
 use Rattle.venice_asm.specs.declared.word.Word.TheVariants as words
 use Rattle.venice_asm.specs.Faults.{BeginsLines, BeginsInRange}
 use Rattle.venice_asm.specs.Lines.{Statement, TextLine, label_words, statement_words, line_words, text_words, is_instr, head_kinds, kinds_behind, suits, all_suit, are_in_range, behind_label, behind_head, behind_statement, section_from, section_of, has_sizes, statements_of, is_version, version_of, has_head, IsStatement, AreLines, IsInRange, AreWordsOf}
-use Rattle.venice_asm.specs.Reading.{instr_named, heads_at, State, Start, AfterName, AfterLabel, Behind, Stuck, with_line, kinds_left, at_start, with_instr, at_word, step, ending, reader, run}
+use Rattle.venice_asm.specs.Reading.{instr_named, heads_at, State, Start, AfterName, AfterLabel, Behind, Stuck, with_line, kinds_left, at_start, with_instr, at_word, at_colon, step, ending, reader, run}
 use Rattle.venice_asm.specs.Spelling.{head_word, operand_word, keyword_among}
-use Rattle.venice_asm.proofs.Following.{outcome, Outcome, Ended, Grown, Unfit, operand_step, IsBegun, IsRight, words_of, moves}
+use Rattle.venice_asm.proofs.Following.{no_colon, behind_step, outcome, Outcome, Ended, Grown, Unfit, ColonOutcome, ArrayLabel, NoLabel, colon_outcome, IsSized, AtArrays, AtCode, sized, operand_step, IsBegun, IsRight, words_of, moves}
 use Rattle.venice_asm.proofs.Lining.{statements_push, section_on, no_section, section_behind, section_push, follows_head, Follows_head, none_later, version_statement, Fine, fine_push, StatementFits, gives}
 use Rattle.venice_asm.proofs.Operands.{operand_read}
 use Rattle.venice_asm.proofs.Registers.{none_some, some_is}
@@ -112,29 +113,34 @@ ops_run lines label head os (o ∷ more) h = by (λ g. ops_run lines label head 
         ∙ next (ap (λ r. all_suit (version_of lines) r more) after ∙ both.1)
         ∙ ap (λ xs. with_line lines label (Some (statement_of_parts head xs))) (append_assoc os (o ∷ []) more)
 
-pub record StartsLabel (section : Option Section) (name : List ℕ) (next : Section) : Type 0 where
-  pub no_head : keyword_among head_word (heads_at section) name ≡ None
+pub record StartsLabel (section : Option Section) (next : Section) : Type 0 where
   pub sizes : has_sizes section ≡ true
   pub code : next ≡ sections.Code
 
-pub starts_label : (section : Option Section) (name : List ℕ) (next : Section) → option_and_then (behind_label (Some name)) section ≡ Some next → StartsLabel section name next
+pub starts_label : (section : Option Section) (name : List ℕ) (next : Section) → option_and_then (behind_label (Some name)) section ≡ Some next → StartsLabel section next
 starts_label None name next e = absurd (none_some next e)
 starts_label (Some sections.Version) name next e = absurd (none_some next e)
 starts_label (Some sections.Spad) name next e = absurd (none_some next e)
 starts_label (Some sections.Memory) name next e = absurd (none_some next e)
-starts_label (Some sections.Arrays) name next e = by (bytes_eq name (head_word heads.Array)) refl e
-  where
-    by : (t : Bool) → bytes_eq name (head_word heads.Array) ≡ t → (if t then None else Some sections.Code) ≡ Some next → StartsLabel (Some sections.Arrays) name next
-    by true is f = absurd (none_some next f)
-    by false is f = record { no_head = ap (λ t. if t then Some heads.Array else None) is; sizes = refl; code = sym (some_is sections.Code next f) }
-starts_label (Some sections.Code) name next e = record { no_head = refl; sizes = refl; code = sym (some_is sections.Code next e) }
+starts_label (Some sections.Arrays) name next e = record { sizes = refl; code = sym (some_is sections.Code next e) }
+starts_label (Some sections.Code) name next e = record { sizes = refl; code = sym (some_is sections.Code next e) }
 
 label_run : (lines : List TextLine) (name : List ℕ) (next : Section) → option_and_then (behind_label (Some name)) (section_of lines) ≡ Some next → run_from step (Start lines) (label_words (Some name)) ≡ AfterLabel lines name
-label_run lines name next e =
-    let s = starts_label (section_of lines) name next e in
-    ap (λ t. step t words.Colon)
-    (ap (λ found. option_map_or (λ (head : Head). Behind lines None head []) found (if has_sizes (section_of lines) then AfterName lines name else Stuck)) s.no_head
-    ∙ ap (λ b. if b then AfterName lines name else Stuck) s.sizes)
+label_run lines name next e = by (section_of lines) refl (sized (section_of lines) (starts_label (section_of lines) name next e).sizes)
+  where
+    begun : (o : Option Section) → section_of lines ≡ o → at_start lines name ≡ option_map_or (λ (head : Head). Behind lines None head []) (keyword_among head_word (heads_at o) name) (if has_sizes o then AfterName lines name else Stuck)
+    begun o is = ap (λ (x : Option Section). option_map_or (λ (head : Head). Behind lines None head []) (keyword_among head_word (heads_at x) name) (if has_sizes x then AfterName lines name else Stuck)) is
+
+    arrays : (t : Bool) → bytes_eq name (head_word heads.Array) ≡ t → section_of lines ≡ Some sections.Arrays → step (at_start lines name) words.Colon ≡ AfterLabel lines name
+    arrays true same is =
+        ap (λ s. step s words.Colon) (begun (Some sections.Arrays) is ∙ ap (λ b. option_map_or (λ (head : Head). Behind lines None head []) (if b then Some heads.Array else None) (AfterName lines name)) same)
+        ∙ ap (λ n. AfterLabel lines n) (sym (same_bytes name (head_word heads.Array) same))
+    arrays false other is =
+        ap (λ s. step s words.Colon) (begun (Some sections.Arrays) is ∙ ap (λ b. option_map_or (λ (head : Head). Behind lines None head []) (if b then Some heads.Array else None) (AfterName lines name)) other)
+
+    by : (o : Option Section) → section_of lines ≡ o → IsSized o → step (at_start lines name) words.Colon ≡ AfterLabel lines name
+    by _ is AtArrays = arrays (bytes_eq name (head_word heads.Array)) refl is
+    by _ is AtCode = ap (λ s. step s words.Colon) (begun (Some sections.Code) is)
 
 -- the word of an instruction of the version is one
 pub instr_read : (version : Version) (head : Head) → is_instr head ≡ true → has_head version head ≡ true → instr_named version (head_word head) ≡ Some head
@@ -239,7 +245,7 @@ named_run : (lines : List TextLine) (head : Head) (os : List Operand) → with_i
     → run_from step (AfterName lines (head_word head)) (map operand_word os ++ words.Line ∷ []) ≡ run_from step (Behind lines None head []) (map operand_word os ++ words.Line ∷ [])
 named_run lines head [] is = ap (λ t. at_word t words.Line) is
 named_run lines head (o ∷ os) is =
-    ap (λ t. run_from step t (map operand_word os ++ words.Line ∷ [])) (named_first lines (head_word head) o ∙ ap (λ t. at_word t (operand_word o)) is)
+    ap (λ t. run_from step t (map operand_word os ++ words.Line ∷ [])) (named_first lines (head_word head) o ∙ ap (λ t. at_word t (operand_word o)) is ∙ sym (behind_step lines None head [] (operand_word o) (no_colon o)))
 
 with_instr_is : (lines : List TextLine) (label : Option (List ℕ)) (head : Head) → is_instr head ≡ true → has_head (version_of lines) head ≡ true → with_instr lines label (head_word head) ≡ Behind lines label head []
 with_instr_is lines label head instr has = ap (λ found. option_map_or (λ (h : Head). Behind lines label h []) found Stuck) (instr_read (version_of lines) head instr has)
@@ -483,7 +489,11 @@ with_instr_ranged lines label (Some head) r = r.0
 
 named_ranged : (lines : List TextLine) (name : List ℕ) (word : Word) (found : Option Head) → IsRanged (at_word (option_map_or (λ (head : Head). Behind lines None head []) found Stuck) word) → All IsInRange (statements_of lines)
 named_ranged lines name word None r = absurd r
-named_ranged lines name word (Some head) r = (behind_ranged lines None head [] word (step (Behind lines None head []) word) (outcome lines None head [] word) r).0
+named_ranged lines name word (Some head) r = (behind_ranged lines None head [] word (at_word (Behind lines None head []) word) (outcome lines None head [] word) r).0
+
+colon_ranged : (lines : List TextLine) (label : Option (List ℕ)) (head : Head) (os : List Operand) (t : State) → ColonOutcome lines label head os t → IsRanged t → IsRanged (Behind lines label head os)
+colon_ranged lines _ _ _ _ ArrayLabel r = (r, refl)
+colon_ranged lines _ _ _ _ (NoLabel label head os) r = absurd r
 
 start_ranged : (lines : List TextLine) (name : List ℕ) (found : Option Head) (b : Bool) → IsRanged (option_map_or (λ (head : Head). Behind lines None head []) found (if b then AfterName lines name else Stuck)) → All IsInRange (statements_of lines)
 start_ranged lines name None true r = r
@@ -502,7 +512,13 @@ ranged_back (AfterName lines name) words.Close r = named_ranged lines name words
 ranged_back (AfterName lines name) words.Line r = named_ranged lines name words.Line (instr_named (version_of lines) name) r
 ranged_back (AfterLabel lines name) words.Line r = no_statement_ranged lines (Some name) r
 ranged_back (AfterLabel lines name) (words.Name word) r = with_instr_ranged lines (Some name) (instr_named (version_of lines) word) r
-ranged_back (Behind lines label head os) word r = behind_ranged lines label head os word (step (Behind lines label head os) word) (outcome lines label head os word) r
+ranged_back (Behind lines label head os) words.Colon r = colon_ranged lines label head os (at_colon lines label head os) (colon_outcome lines label head os) r
+ranged_back (Behind lines label head os) (words.Name bytes) r = behind_ranged lines label head os (words.Name bytes) (at_word (Behind lines label head os) (words.Name bytes)) (outcome lines label head os (words.Name bytes)) r
+ranged_back (Behind lines label head os) (words.Number n) r = behind_ranged lines label head os (words.Number n) (at_word (Behind lines label head os) (words.Number n)) (outcome lines label head os (words.Number n)) r
+ranged_back (Behind lines label head os) words.Open r = behind_ranged lines label head os words.Open (at_word (Behind lines label head os) words.Open) (outcome lines label head os words.Open) r
+ranged_back (Behind lines label head os) words.Comma r = behind_ranged lines label head os words.Comma (at_word (Behind lines label head os) words.Comma) (outcome lines label head os words.Comma) r
+ranged_back (Behind lines label head os) words.Close r = behind_ranged lines label head os words.Close (at_word (Behind lines label head os) words.Close) (outcome lines label head os words.Close) r
+ranged_back (Behind lines label head os) words.Line r = behind_ranged lines label head os words.Line (at_word (Behind lines label head os) words.Line) (outcome lines label head os words.Line) r
 ranged_back s word r = absurd r
 
 pub ranged_from : (s : State) (tokens : List Word) → IsRanged (run_from step s tokens) → IsRanged s

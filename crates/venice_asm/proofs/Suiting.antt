@@ -1,6 +1,7 @@
 -- Operands one after another: what may follow, and how a line can end.
 use Rattle.std.proofs.Common.{◌≡◌, Bool, true, false, List, [], ◌∷◌, ◌++◌, refl, sym, ap, ◌∙◌}
 use Rattle.std.specs.List.{list_all}
+use Rattle.std.specs.Prelude.{not}
 use Rattle.std.proofs.lemmas.Bool.{and_from, and_parts}
 use Rattle.ven_base.specs.declared.elem.Elem.TheVariants.{U8}
 use Rattle.venice_isa.specs.declared.instr.Version.{Version}
@@ -12,7 +13,7 @@ use Rattle.venice_asm.specs.declared.head.Kind.{Kind}
 use Rattle.venice_asm.specs.declared.head.Kind.TheVariants as kinds
 use Rattle.venice_asm.specs.declared.operand.Operand.{Operand}
 use Rattle.venice_asm.specs.declared.operand.Operand.TheVariants as operands
-use Rattle.venice_asm.specs.Lines.{head_kinds, operation_kinds, kinds_behind, is_optional, suits, in_range, all_suit, are_in_range}
+use Rattle.venice_asm.specs.Lines.{is_reserved, head_kinds, operation_kinds, kinds_behind, is_optional, suits, in_range, all_suit, are_in_range}
 use Rattle.venice_asm.specs.Reading.{kinds_left, suit_so_far}
 
 -- what may follow one operand more
@@ -158,13 +159,17 @@ one_more version kind rest o suit ranged more = record {
   ranges = and_from (in_range kind o) (are_in_range (kinds_behind o rest) more.operands) ranged more.ranges;
 }
 
+a_is_free : is_reserved (97 ∷ []) ≡ false
+unfolding is_reserved
+a_is_free = refl
+
 pub ending : (version : Version) (rest : List Kind) → can_end rest ≡ true → Ending version rest
 ending version [] h = record { operands = []; suit = refl; ranges = refl }
 ending version (kinds.NoSum ∷ rest) h = record { operands = []; suit = h; ranges = refl }
 ending version (kinds.Operation ∷ rest) h = record { operands = operands.Operation ops.Mov ∷ operands.Elem U8 ∷ operands.ModeA false ∷ []; suit = refl; ranges = refl }
 ending version (kinds.Version ∷ rest) h = one_more version kinds.Version rest (operands.Number 2) refl refl (ending version rest h)
 ending version (kinds.Number ∷ rest) h = one_more version kinds.Number rest (operands.Number 0) refl refl (ending version rest h)
-ending version (kinds.Array ∷ rest) h = one_more version kinds.Array rest (operands.Name (97 ∷ [])) refl refl (ending version rest h)
+ending version (kinds.Array ∷ rest) h = one_more version kinds.Array rest (operands.Name (97 ∷ [])) (ap not a_is_free) refl (ending version rest h)
 ending version (kinds.Direction ∷ rest) h = one_more version kinds.Direction rest (operands.Output false) refl refl (ending version rest h)
 ending version (kinds.Open ∷ rest) h = one_more version kinds.Open rest operands.Open refl refl (ending version rest h)
 ending version (kinds.Rows ∷ rest) h = one_more version kinds.Rows rest (operands.Rows 0) refl refl (ending version rest h)

@@ -12,7 +12,7 @@ use Rattle.ven_io.specs.Token.{NextIs, IsEnd, StandsAt, IsSpelling, bytes_of}
 use Rattle.ven_io.specs.Tokens.{IsBehind, TokensTo, place_of}
 use Rattle.ven_io.proofs.Readers.{run_on}
 use Rattle.ven_io.proofs.Reached.{one_text, Meets, Same, Before, After}
-use Rattle.image_loader.specs.Table.{instr_limit}
+use Rattle.venice_isa.specs.Limits.{instruction_limit}
 use Rattle.venice_asm.specs.declared.head.Head.{Head}
 use Rattle.venice_asm.specs.declared.phase.Section.{Section}
 use Rattle.venice_asm.specs.declared.phase.Section.TheVariants as sections
@@ -68,7 +68,7 @@ two_more tokens front rest one two all = all ∙ sym (append_assoc front (one �
 
 -- an instruction too many, with no label before it
 many_alone : (text : List ℕ) (tokens front : List Word) (own : Word) (rest : List Word) (to : ℕ) (lines : List TextLine) (head : Head) → TokensTo language text 0 tokens to → IsClean (run tokens) → tokens ≡ front ++ own ∷ rest → front ≡ text_words lines → own ≡ words.Name (head_word head)
-    → AreLines lines → length (instrs_of lines) ≡ instr_limit → is_instr head ≡ true → has_head (version_of lines) head ≡ true → ¬ IsLabelAt text front (head_word head) → IsPending text tokens
+    → AreLines lines → length (instrs_of lines) ≡ instruction_limit → is_instr head ≡ true → has_head (version_of lines) head ≡ true → ¬ IsLabelAt text front (head_word head) → IsPending text tokens
 many_alone text tokens front own rest to lines head read clean all front_is own_is are full instr has no_label = by rest all
   where
     start : run front ≡ Start lines
@@ -94,7 +94,7 @@ many_alone text tokens front own rest to lines head read clean all front_is own_
 
 -- and behind a label
 many_labelled : (text : List ℕ) (tokens front : List Word) (own : Word) (rest : List Word) (lines : List TextLine) (label : List ℕ) (head : Head) → IsClean (run tokens) → tokens ≡ front ++ own ∷ rest → front ≡ text_words lines ++ label_words (Some label) → own ≡ words.Name (head_word head)
-    → AreLines lines → length (instrs_of lines) ≡ instr_limit → IsPending text tokens
+    → AreLines lines → length (instrs_of lines) ≡ instruction_limit → IsPending text tokens
 many_labelled text tokens front own rest lines label head clean all front_is own_is are full = by (label_or_stuck lines label (at_start lines label) (step_to (Start lines) (words.Name label)))
   where
     front_run : run front ≡ step (at_start lines label) words.Colon
@@ -244,7 +244,7 @@ out_of_range text tokens next word behind clean settled sees other goes outside 
 
 -- an instruction too many
 pub too_many : (text : List ℕ) (tokens : List Word) (next : Result Token TokenFault) (lines : List TextLine) (label : Option (List ℕ)) (name : List ℕ) (head : Head) → IsBehind language text tokens next → IsClean (run tokens) → (IsPending text tokens → ⊥) → tokens ≡ text_words lines ++ label_words label → AreLines lines
-    → seen text next ≡ Some (words.Name name) → instr_named (version_of lines) name ≡ Some head → length (instrs_of lines) ≡ instr_limit → step (run tokens) (words.Name name) ≢ Stuck → (label ≡ None → ¬ IsLabelAt text tokens name) → IsRefused text (answers.FieldRange (place_of next))
+    → seen text next ≡ Some (words.Name name) → instr_named (version_of lines) name ≡ Some head → length (instrs_of lines) ≡ instruction_limit → step (run tokens) (words.Name name) ≢ Stuck → (label ≡ None → ¬ IsLabelAt text tokens name) → IsRefused text (answers.FieldRange (place_of next))
 too_many text tokens next lines label name head behind clean settled is are sees named full goes no_label =
     let w = instr_word (version_of lines) name head named in
     refused text tokens next TooMany behind clean settled

@@ -4,9 +4,10 @@ use Rattle.std.specs.Prelude.{if◌then◌else◌, IsTrue}
 use Rattle.std.specs.List.{list_all}
 use Rattle.std.specs.Option.{option_map_or}
 use Rattle.std.proofs.lemmas.List.{append-nil}
-use Rattle.image_loader.specs.Table.{instr_limit}
+use Rattle.venice_isa.specs.Limits.{instruction_limit}
 use Rattle.venice_isa.specs.declared.instr.Version.{Version}
 use Rattle.venice_asm.specs.declared.head.Head.{Head}
+use Rattle.venice_asm.specs.declared.head.Head.TheVariants as heads
 use Rattle.venice_asm.specs.declared.operand.Operand.{Operand}
 use Rattle.venice_asm.specs.declared.phase.Opening.{Opening}
 use Rattle.venice_asm.specs.declared.phase.Phase.TheVariants as phases
@@ -19,11 +20,12 @@ use Rattle.venice_asm.specs.Meaning.{labels_of}
 use Rattle.venice_asm.specs.Reading.{instr_named, kinds_left, State, AfterName, Behind, Stuck, with_line, step}
 use Rattle.venice_asm.specs.Parts.{IsWholeInstr}
 use Rattle.venice_asm.specs.Steps.{Keeps, IsPlaceBehind, AreOperands, IsAt, AtStart, AtName, AtLabel, AtOperand}
-use Rattle.venice_asm.proofs.Following.{label_next, sized, instr_word, instr_opens, IsRight, IsNamed as IsNamedRight, IsBegun, words_of}
+use Rattle.venice_asm.proofs.Following.{behind_step, array_labelled, no_labelled_array, label_next, sized, instr_word, instr_opens, IsRight, IsNamed as IsNamedRight, IsBegun, words_of}
 use Rattle.venice_asm.proofs.Keeping.{keeps_kept}
 use Rattle.venice_asm.specs.Lines.{text_words}
-use Rattle.venice_asm.specs.Moves.{IsReady, may_end, TakesBehind, Ends, Grows, TakesInstr, TakesBehindName, TakesIn}
-use Rattle.venice_asm.specs.Reading.{with_instr, at_word, HasBegun}
+use Rattle.venice_asm.specs.Moves.{IsReady, may_end, TakesBehind, Ends, Grows, TakesInstr, TakesBehindName, TakesColon, TakesNext, TakesIn}
+use Rattle.venice_asm.specs.Reading.{with_instr, at_word, at_colon, HasBegun}
+use Rattle.venice_asm.specs.Spelling.{head_word}
 use Rattle.venice_asm.proofs.Arriving.{push_some, names_with, start_arrives, label_arrives, operand_arrives, entered, keeps_label}
 use Rattle.venice_asm.proofs.Cleanness.{IsClean}
 use Rattle.venice_asm.proofs.LineEnds.{line_ends}
@@ -34,7 +36,7 @@ use Rattle.venice_asm.proofs.Suiting.{suit_end}
 at_line : (lines : List TextLine) (label : Option (List ℕ)) (head : Head) (list : List Operand) → list_all is_optional (kinds_left (head_kinds head) list) ≡ true → step (Behind lines label head list) words.Line ≡ with_line lines label (Some (record { head = head; operands = list }))
 at_line lines label head list ends = ap (λ b. if b then with_line lines label (Some (record { head = head; operands = list })) else Stuck) ends
 
-behind_arrives : (text : List ℕ) (lines : List TextLine) (label : Option (List ℕ)) (head : Head) (old new : Reading) (word : Word) (at last_at : ℕ) → IsBegun lines label head old.operands.items → AreOperands text lines label head old.operands.items last_at → (is_instr head ≡ true → length old.instrs.items < instr_limit) → Keeps text lines label old
+behind_arrives : (text : List ℕ) (lines : List TextLine) (label : Option (List ℕ)) (head : Head) (old new : Reading) (word : Word) (at last_at : ℕ) → IsBegun lines label head old.operands.items → AreOperands text lines label head old.operands.items last_at → (is_instr head ≡ true → length old.instrs.items < instruction_limit) → Keeps text lines label old
     → IsPlaceBehind text (words_of (Behind lines label head old.operands.items)) at → TakesBehind head last_at word at old new → IsAt text new (step (Behind lines label head old.operands.items) word)
 behind_arrives text lines label head old new word at last_at b os room h place (Grows g) = operand_arrives text lines label head old new word at last_at os room h place g
 behind_arrives text lines label head old new word at last_at b os room h place (Ends is ends e) =
@@ -59,6 +61,27 @@ behind_arrives text lines label head old new word at last_at b os room h place (
       few = h.few;
       references = h.references;
     }
+
+-- the word of arrays is a label
+colon_arrives : (text : List ℕ) (lines : List TextLine) (label : Option (List ℕ)) (head : Head) (old new : Reading) → IsBegun lines label head old.operands.items → Keeps text lines label old → TakesColon head old new → IsAt text new (at_colon lines label head old.operands.items)
+colon_arrives text lines label head old new b h t =
+    let begun = subst (λ os. IsBegun lines label heads.Array os) t.is.alone (subst (λ hd. IsBegun lines label hd old.operands.items) t.is.head_is b) in
+    subst (λ hd. IsAt text new (at_colon lines label hd old.operands.items)) (sym t.is.head_is)
+    (subst (λ os. IsAt text new (at_colon lines label heads.Array os)) (sym t.is.alone) (by label begun h))
+  where
+    by : (lb : Option (List ℕ)) → IsBegun lines lb heads.Array [] → Keeps text lines lb old → IsAt text new (at_colon lines lb heads.Array [])
+    by None bg k = AtLabel lines (head_word heads.Array) t.takes.phase (keeps_label text lines (head_word heads.Array) old new (array_labelled lines [] bg).order k t.takes)
+    by (Some name) bg k = absurd (no_labelled_array lines name [] bg)
+
+next_arrives : (text : List ℕ) (lines : List TextLine) (label : Option (List ℕ)) (head : Head) (old new : Reading) (word : Word) (at last_at : ℕ) → IsBegun lines label head old.operands.items → AreOperands text lines label head old.operands.items last_at → (is_instr head ≡ true → length old.instrs.items < instruction_limit) → Keeps text lines label old
+    → IsPlaceBehind text (words_of (Behind lines label head old.operands.items)) at → TakesNext head last_at word at old new → IsAt text new (step (Behind lines label head old.operands.items) word)
+next_arrives text lines label head old new words.Colon at last_at b os room h place t = colon_arrives text lines label head old new b h t
+next_arrives text lines label head old new (words.Name bytes) at last_at b os room h place t = behind_arrives text lines label head old new (words.Name bytes) at last_at b os room h place t
+next_arrives text lines label head old new (words.Number n) at last_at b os room h place t = behind_arrives text lines label head old new (words.Number n) at last_at b os room h place t
+next_arrives text lines label head old new words.Open at last_at b os room h place t = behind_arrives text lines label head old new words.Open at last_at b os room h place t
+next_arrives text lines label head old new words.Comma at last_at b os room h place t = behind_arrives text lines label head old new words.Comma at last_at b os room h place t
+next_arrives text lines label head old new words.Close at last_at b os room h place t = behind_arrives text lines label head old new words.Close at last_at b os room h place t
+next_arrives text lines label head old new words.Line at last_at b os room h place t = behind_arrives text lines label head old new words.Line at last_at b os room h place t
 
 -- the state behind an instruction's word
 pub named_is : (lines : List TextLine) (label : Option (List ℕ)) (name : List ℕ) (head : Head) (version : Version) → version ≡ version_of lines → instr_named version name ≡ Some head → with_instr lines label name ≡ Behind lines label head []
@@ -92,12 +115,12 @@ instr_arrives text lines opening old new word at other n place t =
     let empty = t.entered.operands in
     let arrived = behind_arrives text lines None t.head t.mid new word at opening.at (subst (λ os. IsBegun lines None t.head os) (sym empty) begun)
     (subst (λ os. AreOperands text lines None t.head os opening.at) (sym empty) (record { ranges = refl; last = λ front target is. absurd (push_some front target is) }))
-    (λ instr. subst (λ is. length is < instr_limit) (sym t.entered.kept.code.instrs) t.is.room)
+    (λ instr. subst (λ is. length is < instruction_limit) (sym t.entered.kept.code.instrs) t.is.room)
     (keeps_kept text lines None old t.mid t.entered.kept n.keeps)
     (subst (λ os. IsPlaceBehind text (words_of (Behind lines None t.head os)) at) (sym empty) (subst (λ w. IsPlaceBehind text (text_words lines ++ words.Name w ∷ []) at) (sym spelled) place))
     t.takes in
     subst (IsAt text new)
-    (ap (λ os. step (Behind lines None t.head os) word) empty ∙ ap (λ s. at_word s word) (sym (named_is lines None opening.name t.head (version_of lines) refl named)) ∙ sym (named_step lines opening.name word other))
+    (ap (λ os. step (Behind lines None t.head os) word) empty ∙ behind_step lines None t.head [] word other ∙ ap (λ s. at_word s word) (sym (named_is lines None opening.name t.head (version_of lines) refl named)) ∙ sym (named_step lines opening.name word other))
     arrived
 
 name_arrives : (text : List ℕ) (lines : List TextLine) (opening : Opening) (old new : Reading) (word : Word) (at : ℕ) → IsAtName text lines opening.name opening.at old → IsPlaceBehind text (words_of (AfterName lines opening.name)) at → TakesBehindName opening word at old new → IsAt text new (step (AfterName lines opening.name) word)
@@ -116,17 +139,17 @@ arrives text _ old new word at right (AtName lines name begun phase there h) pla
     name_arrives text lines (record { name = name; at = begun }) old new word at (record { right = right; place = there; keeps = h }) place (subst (λ p. TakesIn p word at old new) phase t)
 arrives text _ old new word at right (AtLabel lines name phase h) place t = label_arrives text lines name old new word at h (subst (λ p. TakesIn p word at old new) phase t)
 arrives text _ old new word at right (AtOperand lines label head last phase os room h) place t =
-    behind_arrives text lines label head old new word at last right os room h place (subst (λ p. TakesIn p word at old new) phase t)
+    next_arrives text lines label head old new word at last right os room h place (subst (λ p. TakesIn p word at old new) phase t)
 
 -- ---- the reading is clean, and ready
 
 pub clean_at : (text : List ℕ) (r : Reading) (s : State) → IsAt text r s → IsClean s
-clean_at text r _ (AtStart lines phase h) = record { ranged = h.ranges; few = subst (λ n. n ≤ instr_limit) h.instrs.count h.few; apart = subst AreApart (ap (map (λ (pair : List ℕ × ℕ). pair.0)) (append-nil (labels_of lines))) h.apart }
-clean_at text r _ (AtName lines name at phase place h) = record { ranged = h.ranges; few = subst (λ n. n ≤ instr_limit) h.instrs.count h.few; apart = subst AreApart (ap (map (λ (pair : List ℕ × ℕ). pair.0)) (append-nil (labels_of lines))) h.apart }
-clean_at text r _ (AtLabel lines name phase h) = record { ranged = h.ranges; few = subst (λ n. n ≤ instr_limit) h.instrs.count h.few; apart = subst AreApart (names_with lines (Some name)) h.apart }
+clean_at text r _ (AtStart lines phase h) = record { ranged = h.ranges; few = subst (λ n. n ≤ instruction_limit) h.instrs.count h.few; apart = subst AreApart (ap (map (λ (pair : List ℕ × ℕ). pair.0)) (append-nil (labels_of lines))) h.apart }
+clean_at text r _ (AtName lines name at phase place h) = record { ranged = h.ranges; few = subst (λ n. n ≤ instruction_limit) h.instrs.count h.few; apart = subst AreApart (ap (map (λ (pair : List ℕ × ℕ). pair.0)) (append-nil (labels_of lines))) h.apart }
+clean_at text r _ (AtLabel lines name phase h) = record { ranged = h.ranges; few = subst (λ n. n ≤ instruction_limit) h.instrs.count h.few; apart = subst AreApart (names_with lines (Some name)) h.apart }
 clean_at text r _ (AtOperand lines label head at phase os room h) = record {
   ranged = (h.ranges, os.ranges);
-  few = (subst (λ n. n ≤ instr_limit) h.instrs.count h.few, λ instr. subst (λ n. n < instr_limit) h.instrs.count (room instr));
+  few = (subst (λ n. n ≤ instruction_limit) h.instrs.count h.few, λ instr. subst (λ n. n < instruction_limit) h.instrs.count (room instr));
   apart = subst AreApart (names_with lines label) h.apart;
 }
 

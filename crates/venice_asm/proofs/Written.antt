@@ -1,6 +1,6 @@
 -- The canonical text of an image denotes it.
 use Rattle.std.proofs.Common.{◌≡◌, ◌⊎◌, inl, inr, ℕ, zero, suc, ◌+◌, ◌*◌, ◌<◌, ◌≤◌, ◌^◌, Bool, true, false, ◌||◌, ◌&&◌, List, [], ◌∷◌, ◌++◌, map, length, get_or, take, Some, None, refl, sym, ap, subst, ◌∙◌, arith, append_assoc, All, Contains}
-use Rattle.std.specs.Prelude.{codes, nat_lt, nat_le, if◌then◌else◌, slice_get}
+use Rattle.std.specs.Prelude.{codes, not, nat_lt, nat_le, if◌then◌else◌, slice_get}
 use Rattle.std.specs.List.{list_all, list_any, filter, filter_map, cons_option}
 use Rattle.std.specs.Option.{option_map, IsSomeAnd}
 use Rattle.std.proofs.lemmas.Bool.{and_from, cases_lt, both_ways}
@@ -41,11 +41,11 @@ use Rattle.venice_asm.specs.Canonical.{line_of, mode_of, statement_of, array_sta
 use Rattle.venice_asm.specs.Faults.{HasLines}
 use Rattle.venice_asm.specs.Label.{IsLabel}
 use Rattle.venice_asm.specs.Laws.{DenotesItsImage}
-use Rattle.venice_asm.specs.Lines.{Statement, TextLine, statement_words, line_words, text_words, is_instr, head_kinds, all_suit, are_in_range, behind_head, section_from, section_of, has_sizes, statements_of, is_version, version_of, has_head, register_bound, IsStatement, IsInRange}
+use Rattle.venice_asm.specs.Lines.{is_reserved, Statement, TextLine, statement_words, line_words, text_words, is_instr, head_kinds, all_suit, are_in_range, behind_head, section_from, section_of, has_sizes, statements_of, is_version, version_of, has_head, register_bound, IsStatement, IsInRange}
 use Rattle.venice_asm.specs.Meaning.{array_of, instrs_of, labels_from, labels_of, with_number, with_numbers}
 use Rattle.venice_asm.specs.Spelling.{head_word, operand_word}
 use Rattle.venice_asm.specs.Words.{language}
-use Rattle.venice_asm.proofs.Names.{head_label, operation_label, type_label, parameter_label, direction_label, transfer_label, one_letter_label, two_letter_label, sum_label, register_label}
+use Rattle.venice_asm.proofs.Names.{not_reserved, head_label, operation_label, type_label, parameter_label, direction_label, transfer_label, one_letter_label, two_letter_label, sum_label, register_label}
 use Rattle.venice_asm.proofs.Spelled.{Reads as ReadsAs, Any, Ends, join, blank, nothing_reads, IsSpelled, word_reads, any_ends, open_reads, comma_reads, close_reads, line_reads}
 
 -- ---- operands that a space stands before
@@ -136,6 +136,7 @@ step P operand rest one more follows = join P Ends (operand_text operand) (opera
 
 record IsWrittenArray (entry : Entry) : Type 0 where
   name : IsLabel entry.name
+  free : is_reserved entry.name ≡ false
   rows : entry.shape.rows ≤ number_limit
   cols : entry.shape.cols ≤ number_limit
   place : entry.place ≤ number_limit
@@ -165,7 +166,7 @@ array_reads entry h =
 array_fits : (version : Version) (entry : Entry) → IsWrittenArray entry → IsFitting version (array_statement entry)
 array_fits version entry h = record {
   is_written = written (array_statement entry) (array_reads entry h) (λ post ends some. refl);
-  statement = record { head = refl; operands = refl };
+  statement = record { head = refl; operands = ap (λ b. not b && true) h.free };
   ranges = both _ _ (limit entry.shape.rows h.rows) (both _ _ (limit entry.shape.cols h.cols) (both _ _ (limit entry.place h.place) refl));
 }
   where
@@ -494,8 +495,13 @@ named bytes h = record { token = token bytes h; short = not_less 31 (length byte
       test (list_all is_name_byte bs) (λ off. g (λ n. let on = n.token.1 in both_ways _ off on)),
     )
 
+-- nor are they reserved
+free_name : (bytes : List ℕ) → (¬ IsName bytes → ⊥) → is_reserved bytes ≡ false
+free_name bytes h = not_reserved bytes (λ reserved. h (λ n. n.free reserved))
+
 record KeepsNumbers (raw : RawEntry) : Type 0 where
   name : IsLabel raw.name
+  free : is_reserved raw.name ≡ false
   rows : raw.rows ≤ number_limit
   cols : raw.columns ≤ number_limit
   place : raw.place ≤ number_limit
@@ -509,6 +515,7 @@ keeps_numbers header entries k raw table memory is =
     let length_lies = lies 1 31 raw.name_length (none parts.NameLength) in
     record {
       name = named raw.name (λ no. none parts.NameBytes (record { from = length_lies.0; to = length_lies.1 }, inl no));
+      free = free_name raw.name (λ no. none parts.NameBytes (record { from = length_lies.0; to = length_lies.1 }, inl no));
       rows = omega arith;
       cols = omega arith;
       place = omega arith;
@@ -522,7 +529,7 @@ arrays_keep image h memory k d lt =
     let entry = get_or image.arrays k d in
     let is : slice_get (raw_entries image.arrays) k ≡ Some (raw_entry entry) = slice_get-map raw_entry image.arrays k ∙ ap (option_map raw_entry) (slice_get-get_or image.arrays k d lt) in
     let n = keeps_numbers (header_of image) (raw_entries image.arrays) k (raw_entry entry) h.table memory is in
-    record { name = n.name; rows = n.rows; cols = n.cols; place = n.place }
+    record { name = n.name; free = n.free; rows = n.rows; cols = n.cols; place = n.place }
 
 -- ---- all statements fit
 

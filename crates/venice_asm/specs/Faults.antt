@@ -9,7 +9,8 @@ use Rattle.ven_io.specs.Token.{bytes_of}
 use Rattle.ven_io.specs.Reader.{Begins}
 use Rattle.ven_io.specs.Tokens.{TokensTo, IsBehind, place_of}
 use Rattle.image_loader.specs.Image.{ImageContents, IsImage}
-use Rattle.image_loader.specs.Table.{Header, TableField, BreaksTable, field_place, instr_limit}
+use Rattle.venice_isa.specs.Limits.{instruction_limit}
+use Rattle.image_loader.specs.Table.{Header, TableField, BreaksTable, field_place}
 use Rattle.venice_asm.specs.declared.fault.AsmFault.{AsmFault}
 use Rattle.venice_asm.specs.declared.fault.AsmFault.TheVariants as answers
 use Rattle.venice_asm.specs.declared.head.Head.{Head}
@@ -41,7 +42,7 @@ pub record AreApart (names : List (List ℕ)) : Type 0 where
 -- comes again
 pub record Reads (text : List ℕ) (lines : List TextLine) : Type 0 where
   pub has : HasLines text lines
-  pub few : length (instrs_of lines) ≤ instr_limit
+  pub few : length (instrs_of lines) ≤ instruction_limit
   pub apart : AreApart (label_names lines)
 
 -- the text's lines are this image's, labels replaced by instruction numbers
@@ -99,7 +100,7 @@ pub record IsTooMany (text : List ℕ) (words : List Word) (next : Result Token 
   pub head : Head
   pub before : words ≡ text_words lines ++ label_words label
   pub lines_are : AreLines lines
-  pub full : length (instrs_of lines) ≡ instr_limit
+  pub full : length (instrs_of lines) ≡ instruction_limit
   pub sees : seen text next ≡ Some (Name (head_word head))
   pub instr : IsTrue (is_instr head)
   pub in_version : IsTrue (has_head (version_of lines) head)

@@ -17,7 +17,7 @@ use Rattle.venice_asm.specs.declared.operand.Operand.{Operand}
 use Rattle.venice_asm.specs.declared.operand.Operand.TheVariants as operands
 use Rattle.venice_asm.specs.declared.word.Word.{Word}
 use Rattle.venice_asm.specs.declared.word.Word.TheVariants as words
-use Rattle.venice_asm.specs.Lines.{in_range, register_bound}
+use Rattle.venice_asm.specs.Lines.{is_reserved, in_range, register_bound}
 use Rattle.venice_asm.specs.Words.{too_large}
 use Rattle.venice_asm.specs.Spelling.{type_word, operation_word, parameter_words, direction_word, transfer_word, letter, sum_word, keyword_among}
 
@@ -70,7 +70,7 @@ two_letters bytes = None
 -- ---- the operand that a word is
 
 abbrev pub name_operand : Version → Kind → List ℕ → Option Operand
-name_operand version kinds.Array bytes = Some (operands.Name bytes)
+name_operand version kinds.Array bytes = if is_reserved bytes then None else Some (operands.Name bytes)
 name_operand version kinds.Target bytes = Some (operands.Name bytes)
 name_operand version kinds.Direction bytes =
     option_map operands.Output (one_named bytes (direction_word false) (direction_word true))

@@ -3,6 +3,7 @@ use Rattle.std.specs.Prelude.{◌≡◌, ℕ, ◌^◌, nat_lt, nat_le, ◌==◌,
 use Rattle.std.specs.List.{list_all, list_any, flat_map, filter_map}
 use Rattle.std.specs.Option.{option_and_then}
 use Rattle.std.specs.Str.{bytes_eq}
+use Rattle.ven_base.specs.Name.{reserved_words}
 use Rattle.ven_io.specs.Number.{number_limit}
 use Rattle.venice_isa.specs.declared.instr.Version.{Version}
 use Rattle.venice_isa.specs.declared.instr.Version.TheVariants.{One, Two}
@@ -106,6 +107,10 @@ is_optional kinds.Sum = true
 is_optional kinds.NoSum = true
 is_optional kind = false
 
+-- a word that the array language keeps for itself, which is no array's name
+unfoldable pub is_reserved : List ℕ → Bool
+is_reserved bytes = list_any (bytes_eq bytes) reserved_words
+
 -- a register's name has room for 30 digits
 abbrev pub register_bound : ℕ
 register_bound = 10 ^ 30
@@ -114,7 +119,7 @@ register_bound = 10 ^ 30
 abbrev pub suits : Version → Kind → Operand → Bool
 suits version kinds.Version (operands.Number n) = true
 suits version kinds.Number (operands.Number n) = true
-suits version kinds.Array (operands.Name bytes) = true
+suits version kinds.Array (operands.Name bytes) = not (is_reserved bytes)
 suits version kinds.Direction (operands.Output output) = true
 suits version kinds.Open operands.Open = true
 suits version kinds.Rows (operands.Rows n) = true
@@ -162,12 +167,10 @@ are_in_range (kind ∷ rest) (operand ∷ operands) =
 
 -- ---- the order of lines
 
--- what may begin the next line, behind a label: labels stand in code alone, and the word of arrays begins none before
--- it
+-- what may begin the next line, behind a label: labels stand in code alone
 abbrev pub behind_label : Option (List ℕ) → Section → Option Section
 behind_label None section = Some section
-behind_label (Some name) sections.Arrays =
-    if bytes_eq name (head_word heads.Array) then None else Some sections.Code
+behind_label (Some name) sections.Arrays = Some sections.Code
 behind_label (Some name) sections.Code = Some sections.Code
 behind_label (Some name) section = None
 

@@ -4,7 +4,8 @@ use Rattle.std.specs.List.{list_all}
 use Rattle.venice_isa.specs.declared.instr.Instr.{Instr}
 use Rattle.venice_isa.specs.declared.instr.Version.{Version}
 use Rattle.venice_isa.specs.declared.instr.Version.TheVariants.{Two}
-use Rattle.image_loader.specs.Table.{RawEntry, array_limit, instr_limit}
+use Rattle.venice_isa.specs.Limits.{instruction_limit}
+use Rattle.image_loader.specs.Table.{RawEntry, array_limit}
 use Rattle.venice_asm.specs.declared.fault.AsmFault.{AsmFault}
 use Rattle.venice_asm.specs.declared.fault.AsmFault.TheVariants as answers
 use Rattle.venice_asm.specs.declared.head.Head.{Head}
@@ -64,13 +65,13 @@ pub record IsEntered (head : Head) (at : ℕ) (old new : Reading) : Type 0 where
 
 pub record IsHeadOf (r : Reading) (name : List ℕ) (head : Head) : Type 0 where
   pub named : instr_named r.version name ≡ Some head
-  pub room : length r.instrs.items < instr_limit
+  pub room : length r.instrs.items < instruction_limit
 
 -- an instruction too many
 pub record IsFull (r : Reading) (name : List ℕ) : Type 0 where
   pub head : Head
   pub named : instr_named r.version name ≡ Some head
-  pub full : instr_limit ≤ length r.instrs.items
+  pub full : instruction_limit ≤ length r.instrs.items
 
 abbrev pub IsNoInstr : Reading → List ℕ → (at next_at : ℕ) → AsmFault → Type 0
 IsNoInstr r name at next_at (answers.Unexpected place) = (place ≡ next_at) × (instr_named r.version name ≡ None)
@@ -141,7 +142,7 @@ RefusesBehindLabel old word at fault = ⊥
 
 -- there is room for one more of each
 pub record HasRoom (r : Reading) : Type 0 where
-  pub few : length r.instrs.items ≤ instr_limit
+  pub few : length r.instrs.items ≤ instruction_limit
   pub arrays : r.array_count ≤ array_limit + 1
 
 abbrev pub kinds_in : Head → Reading → List Kind
@@ -273,6 +274,30 @@ abbrev pub RefusesBehindName : Opening → Word → ℕ → Reading → AsmFault
 RefusesBehindName opening words.Colon at old fault = RefusesLabel old opening fault
 RefusesBehindName opening word at old fault = RefusesInstr opening word at old fault
 
+-- ---- a word behind a line's first word
+
+-- the word of arrays is a label
+pub record IsArrayLabel (head : Head) (old : Reading) : Type 0 where
+  pub head_is : head ≡ heads.Array
+  pub alone : old.operands.items ≡ []
+
+pub record TakesColon (head : Head) (old new : Reading) : Type 0 where
+  pub is : IsArrayLabel head old
+  pub takes : TakesLabel (head_word heads.Array) old new
+
+pub data RefusesColon (head : Head) (last_at at : ℕ) (old : Reading) (fault : AsmFault) : Type 0 where
+  NoArray : fault ≡ answers.Unexpected at → (IsArrayLabel head old → ⊥) → RefusesColon head last_at at old fault
+  NotNew : IsArrayLabel head old → RefusesLabel old (record { name = head_word heads.Array; at = last_at }) fault
+      → RefusesColon head last_at at old fault
+
+abbrev pub TakesNext : Head → (last_at : ℕ) → Word → (at : ℕ) → (old new : Reading) → Type 0
+TakesNext head last_at words.Colon at old new = TakesColon head old new
+TakesNext head last_at word at old new = TakesBehind head last_at word at old new
+
+abbrev pub RefusesNext : Head → (last_at : ℕ) → Word → (at : ℕ) → Reading → AsmFault → Type 0
+RefusesNext head last_at words.Colon at old fault = RefusesColon head last_at at old fault
+RefusesNext head last_at word at old fault = RefusesBehind head word at old fault
+
 -- ---- a word
 
 -- the line that is being read may end where the code ends it
@@ -286,19 +311,19 @@ abbrev pub TakesIn : Phase → Word → ℕ → Reading → Reading → Type 0
 TakesIn phases.Start word at old new = TakesFirst old word at new
 TakesIn (phases.AfterName opening) word at old new = TakesBehindName opening word at old new
 TakesIn phases.AfterLabel word at old new = TakesBehindLabel old word at new
-TakesIn (phases.Behind head last_at) word at old new = TakesBehind head last_at word at old new
+TakesIn (phases.Behind head last_at) word at old new = TakesNext head last_at word at old new
 
 abbrev pub RefusesIn : Phase → Word → ℕ → Reading → AsmFault → Type 0
 RefusesIn phases.Start word at old fault = RefusesFirst old word at fault
 RefusesIn (phases.AfterName opening) word at old fault = RefusesBehindName opening word at old fault
 RefusesIn phases.AfterLabel word at old fault = RefusesBehindLabel old word at fault
-RefusesIn (phases.Behind head last_at) word at old fault = RefusesBehind head word at old fault
+RefusesIn (phases.Behind head last_at) word at old fault = RefusesNext head last_at word at old fault
 
 -- what is refused where nothing stands that is a word
 abbrev pub RefusesAll : Phase → ℕ → Reading → AsmFault → Type 0
 RefusesAll (phases.AfterName opening) at r (answers.Unexpected place) =
     (place ≡ at)
-    × ((head : Head) → instr_named r.version opening.name ≡ Some head → length r.instrs.items < instr_limit)
+    × ((head : Head) → instr_named r.version opening.name ≡ Some head → length r.instrs.items < instruction_limit)
 RefusesAll (phases.AfterName opening) at r (answers.FieldRange place) = (place ≡ opening.at) × IsFull r opening.name
 RefusesAll phase at r (answers.Unexpected place) = place ≡ at
 RefusesAll phase at r fault = ⊥

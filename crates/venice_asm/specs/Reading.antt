@@ -100,6 +100,11 @@ at_word (Behind lines label head operands) word =
     at_kinds (kinds_left (head_kinds head) operands) lines label head operands word
 at_word s word = Stuck
 
+-- a `:` behind a line's first word: that of arrays is a label there, as any name in code
+abbrev pub at_colon : List TextLine → Option (List ℕ) → Head → List Operand → State
+at_colon lines None heads.Array [] = AfterLabel lines (head_word heads.Array)
+at_colon lines label head operands = Stuck
+
 abbrev pub step : State → Word → State
 step (Start lines) words.Line = with_line lines None None
 step (Start lines) (words.Name name) = at_start lines name
@@ -107,6 +112,7 @@ step (AfterName lines name) words.Colon = AfterLabel lines name
 step (AfterName lines name) word = at_word (with_instr lines None name) word
 step (AfterLabel lines name) words.Line = with_line lines (Some name) None
 step (AfterLabel lines name) (words.Name word) = with_instr lines (Some name) word
+step (Behind lines label head operands) words.Colon = at_colon lines label head operands
 step (Behind lines label head operands) word = at_word (Behind lines label head operands) word
 step s word = Stuck
 

@@ -8,7 +8,9 @@ use Rattle.venice_isa.specs.declared.instr.Instr.{Instr}
 use Rattle.ven_base.specs.declared.entry.Entry.{Entry}
 use Rattle.image_loader.specs.declared.table.EntryPart.{EntryPart}
 use Rattle.image_loader.specs.Image.{raw_entry, raw_entries}
-use Rattle.image_loader.specs.Table.{RawEntry, LiesIn, spad_limit, memory_limit, array_limit, instr_limit, offset_of, entry_place, IsRight, BreaksFirst}
+use Rattle.ven_base.specs.Limits.{cell_limit, memory_limit}
+use Rattle.venice_isa.specs.Limits.{instruction_limit}
+use Rattle.image_loader.specs.Table.{RawEntry, LiesIn, array_limit, offset_of, entry_place, IsRight, BreaksFirst}
 use Rattle.venice_asm.specs.declared.fault.AsmFault.{AsmFault}
 use Rattle.venice_asm.specs.declared.fault.AsmFault.TheVariants as answers
 use Rattle.venice_asm.specs.declared.head.Head.{Head}
@@ -40,16 +42,16 @@ pub record IsWrongEntry (memory : ℕ) (earlier : List RawEntry) (array : ArrayL
 
 -- the numbers of the header lie in their ranges
 pub record IsGoodHeader (spad memory array_count : ℕ) : Type 0 where
-  pub spad_lies : LiesIn 1 spad_limit spad
+  pub spad_lies : LiesIn 1 cell_limit spad
   pub memory_lies : LiesIn 0 memory_limit memory
   pub arrays_lie : LiesIn 0 array_limit array_count
 
 -- else the place of the first that doesn't
 abbrev pub IsBadHeader : (spad memory array_count : ℕ) → AsmFault → Type 0
 IsBadHeader spad memory array_count (answers.Table at) =
-    ((at ≡ 4) × (¬ LiesIn 1 spad_limit spad))
-    ⊎ ((at ≡ 8) × LiesIn 1 spad_limit spad × (¬ LiesIn 0 memory_limit memory))
-    ⊎ ((at ≡ 12) × LiesIn 1 spad_limit spad × LiesIn 0 memory_limit memory × (¬ LiesIn 0 array_limit array_count))
+    ((at ≡ 4) × (¬ LiesIn 1 cell_limit spad))
+    ⊎ ((at ≡ 8) × LiesIn 1 cell_limit spad × (¬ LiesIn 0 memory_limit memory))
+    ⊎ ((at ≡ 12) × LiesIn 1 cell_limit spad × LiesIn 0 memory_limit memory × (¬ LiesIn 0 array_limit array_count))
 IsBadHeader spad memory array_count fault = ⊥
 
 -- the first entries keep their rules
@@ -125,7 +127,7 @@ pub record Keeps (text : List ℕ) (lines : List TextLine) (label : Option (List
   pub labels : r.labels.entries ≡ with_label lines label
   pub apart : AreApart (map (λ (pair : List ℕ × ℕ). pair.0) (with_label lines label))
   pub instrs : AreInstrs lines r.instrs.items
-  pub few : length r.instrs.items ≤ instr_limit
+  pub few : length r.instrs.items ≤ instruction_limit
   pub references : AreReferences text lines r.references.items
 
 -- behind these words stands something at this place
@@ -155,7 +157,7 @@ pub data IsAt (text : List ℕ) (r : Reading) : State → Type 0 where
       → IsAt text r (AfterLabel lines name)
   AtOperand : (lines : List TextLine) (label : Option (List ℕ)) (head : Head) (at : ℕ)
       → r.phase ≡ phases.Behind head at → AreOperands text lines label head r.operands.items at
-      → (IsTrue (is_instr head) → length r.instrs.items < instr_limit) → Keeps text lines label r
+      → (IsTrue (is_instr head) → length r.instrs.items < instruction_limit) → Keeps text lines label r
       → IsAt text r (Behind lines label head r.operands.items)
 
 -- the text is read up to a place without a fault

@@ -1,9 +1,8 @@
 //! From a text to an image (docs/FORMATS.md, "Assembler texts").
 
 ghost use Rattle.std.specs.Prelude.{◌≡◌, ◌≤◌, ◌<◌, map, length, MatchResult};
-ghost use Rattle.image_loader.specs.Clear.{byte_limit};
 ghost use Rattle.image_loader.specs.Image.{raw_entries};
-ghost use Rattle.image_loader.specs.Table.{array_limit, offset_of};
+ghost use Rattle.image_loader.specs.Table.{array_limit, file_limit, offset_of};
 ghost use Rattle.venice_asm.specs.Faults.{DenotesImage, IsAnswered};
 ghost use Rattle.venice_asm.specs.Meaning.{number_for};
 ghost use Rattle.venice_asm.specs.Parts.{raw_array, target_operand};
@@ -16,12 +15,10 @@ use crate::labels::number_among;
 use crate::phase::{ArrayLine, Reference, Target};
 use crate::reading::Reading;
 use crate::statement::with_target;
-use image_loader::{
-    ARRAY_LIMIT, EntryFields, EntryPart, Image, MEMORY_LIMIT, SPAD_LIMIT, check_entry,
-};
+use image_loader::{ARRAY_LIMIT, EntryFields, EntryPart, Image, check_entry};
 use indexmap::IndexMap;
 use std::alloc::Global;
-use ven_base::Entry;
+use ven_base::{CELL_LIMIT, Entry, MEMORY_LIMIT};
 use venice_isa::{Code, Instr};
 
 /// The number that a target names.
@@ -60,7 +57,7 @@ fn resolve(
 fn check_header(spad: u32, memory: u32, array_count: u32) -> Result<(), AsmFault>
     ensures { MatchResult result (λ _. IsGoodHeader spad memory array_count) (IsBadHeader spad memory array_count) }
 {
-    if spad == 0 || spad > SPAD_LIMIT {
+    if spad == 0 || spad > CELL_LIMIT {
         return Err(AsmFault::Table { at: 4 });
     }
     if memory > MEMORY_LIMIT {
@@ -137,12 +134,12 @@ fn table_of(alloc: Global, arrays: &[ArrayLine], memory: u32) -> Result<Vec<Entr
 }
 
 /// The image that the text denotes, where it has no fault, or else its first fault (docs/FORMATS.md, "Assembler
-/// texts"). Takes time linear in the text. Condition: the length is at most 67,108,864 bytes.
+/// texts"). Takes time linear in the text. Condition: the length is at most `FILE_LIMIT`.
 ///
 /// `Unexpected`, `FieldRange` and `LabelTwice` come first, from left to right; then `UnknownLabel`, `Table` and
 /// `NoHalt`, in this order.
 pub fn assemble(alloc: Global, text: &[u8]) -> Result<Image, AsmFault>
-    requires { length text.now ≤ byte_limit }
+    requires { length text.now ≤ file_limit }
     ensures { MatchResult result (λ image. DenotesImage text.now image) (λ fault. IsAnswered text.now fault) }
 {
     let mut reading = Reading::new(alloc);

@@ -4,7 +4,7 @@ ghost use Rattle.std.specs.Prelude.{◌≡◌, ◌≤◌, ◌∷◌, MatchResult
 ghost use Rattle.std.specs.List.{list_all};
 ghost use Rattle.ven_base.specs.Name.{is_digit as is_decimal_digit};
 ghost use Rattle.venice_asm.specs.Words.{too_large};
-ghost use Rattle.venice_asm.specs.Lines.{in_range};
+ghost use Rattle.venice_asm.specs.Lines.{is_reserved, in_range};
 ghost use Rattle.venice_asm.specs.declared.head.Kind.TheVariants as kinds;
 ghost use Rattle.venice_asm.specs.Fitting.{parameter_named, one_named, scalar_named, is_plain_decimal, IsRegisterOf, IsNoRegister, operation_named, one_letter, two_letters, HasKeywords, name_operand, number_operand, IsRanged, IsOperandOf, IsMisfit, IsSmall};
 
@@ -14,11 +14,11 @@ use crate::operand::{Operand, PARAMETERS, direction_word, letter, parameter_word
 use crate::spelling::{OPERATIONS, TYPES, keyword_among};
 use crate::word::Word;
 use crate::words::capped_number;
-use ven_base::is_digit;
+use ven_base::{is_digit, is_reserved};
 use venice_isa::{PARAMETER_COUNT, REGISTER_COUNT, VecOp, Version};
 
 /// Why a word is no operand: none such can stand there, or it is out of its range.
-#[derive(Clone, Copy, Debug, PartialEq, Eq)]
+#[derive(Clone, Copy)]
 pub enum Misfit {
     /// None such can stand there.
     Unexpected,
@@ -218,12 +218,20 @@ fn check_range(kind: Kind, operand: Option<Operand>) -> Result<Operand, Misfit>
     }
 }
 
+/// Whether the array language keeps the word for itself.
+fn is_reserved_word(bytes: &[u8]) -> bool
+    ensures { result ≡ is_reserved bytes.now }
+{
+    is_reserved(bytes)
+}
+
 /// The operand of this kind that a name is.
 fn read_name(version: Version, kind: Kind, label: &Label) -> Result<Operand, Misfit>
     ensures { MatchResult result (IsOperandOf version kind (Word.Name label.now))
         (IsMisfit version kind (Word.Name label.now)) }
 {
     match kind {
+        Kind::Array if is_reserved_word(label.bytes()) => Err(Misfit::Unexpected),
         Kind::Array | Kind::Target => Ok(Operand::Name(*label)),
         Kind::Register => match register_named(label.bytes()) {
             Ok(number) => Ok(Operand::Register(number)),

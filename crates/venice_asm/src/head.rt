@@ -8,7 +8,7 @@ use crate::spelling::Keyword;
 use venice_isa::{VecOp, Version};
 
 /// The word that begins a line, behind its label: of the text's head, of an array, or an instruction's.
-#[derive(Clone, Copy, Debug, PartialEq, Eq)]
+#[derive(Clone, Copy)]
 pub enum Head {
     Version,
     Spad,
@@ -35,7 +35,7 @@ pub enum Head {
 }
 
 /// What may stand in a place of a line.
-#[derive(Clone, Copy, Debug, PartialEq, Eq)]
+#[derive(Clone, Copy)]
 pub enum Kind {
     /// The number of the version, 2.
     Version,

@@ -8,7 +8,6 @@ ghost use Rattle.std.specs.Hash as fed;
 ghost use Rattle.std.proofs.Common.{rules};
 ghost use Rattle.venice_asm.specs.Label.{IsLabel};
 
-use std::fmt;
 use std::hash::{Hash, Hasher};
 use std::marker::Model;
 use ven_base::{NAME_LIMIT, is_name_token};
@@ -61,12 +60,6 @@ impl Label {
         ensures is_label { IsLabel self.now }
     {
         &self.bytes[..self.len as usize]
-    }
-}
-
-impl fmt::Debug for Label {
-    fn fmt<W: fmt::Write>(&self, f: &mut fmt::Formatter<W>) -> fmt::Result {
-        fmt::Debug::fmt(&self.bytes(), f)
     }
 }
 

@@ -24,8 +24,6 @@ mod phase;
 mod reading;
 mod spelling;
 mod statement;
-#[cfg(test)]
-mod tests;
 mod word;
 mod words;
 

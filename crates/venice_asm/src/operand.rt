@@ -10,7 +10,7 @@ use venice_isa::VecOp;
 /// A word, or a sign, that stands behind the first word of a line: a name of an array or a label, a number, a
 /// register's number, a parameter's number, whether an array is an output, whether a transfer is a write, whether A and
 /// B are scalars.
-#[derive(Clone, Copy, Debug, PartialEq)]
+#[derive(Clone, Copy)]
 pub enum Operand {
     Name(Label),
     Number(u32),

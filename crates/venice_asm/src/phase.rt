@@ -6,7 +6,7 @@ use ven_base::Elem;
 
 /// What may begin a line: the version or the scratchpad's size; that size; the memory's size; an array or code; code
 /// alone.
-#[derive(Clone, Copy, Debug, PartialEq, Eq)]
+#[derive(Clone, Copy)]
 pub enum Section {
     Version,
     Spad,
@@ -17,7 +17,7 @@ pub enum Section {
 
 /// A name at the start of a line of code, at this place in bytes: a label, if a `:` follows, and else an instruction's
 /// word.
-#[derive(Clone, Copy, Debug)]
+#[derive(Clone, Copy)]
 pub struct Opening {
     pub name: Label,
     pub at: u32,
@@ -25,7 +25,7 @@ pub struct Opening {
 
 /// What has just been read of a line: nothing, a name, a label with its `:`, or its first word and some operands, of
 /// which the last stands at this place in bytes.
-#[derive(Clone, Copy, Debug)]
+#[derive(Clone, Copy)]
 pub enum Phase {
     Start,
     AfterName(Opening),
@@ -34,7 +34,7 @@ pub enum Phase {
 }
 
 /// An array as its line says. `place` counts bytes of memory from 0.
-#[derive(Clone, Copy, Debug)]
+#[derive(Clone, Copy)]
 pub struct ArrayLine {
     pub name: Label,
     pub output: bool,
@@ -45,14 +45,14 @@ pub struct ArrayLine {
 }
 
 /// Where a jump goes: to a label, or to the instruction with this number.
-#[derive(Clone, Copy, Debug)]
+#[derive(Clone, Copy)]
 pub enum Target {
     Label(Label),
     Number(u32),
 }
 
 /// The target of a jump: that of instruction `instr`, in a token that begins at this place in bytes.
-#[derive(Clone, Copy, Debug)]
+#[derive(Clone, Copy)]
 pub struct Reference {
     pub at: u32,
     pub instr: u32,

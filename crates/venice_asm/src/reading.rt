@@ -1,8 +1,8 @@
 //! The reader of assembler texts: one word after another, to the lines' meaning or the first fault in the text.
 
-ghost use Rattle.std.specs.Prelude.{◌≡◌, ◌<◌, ◌≤◌, ◌^◌, List, ℕ, drop, length, true, IsTrue, nat_le, Some, None, Err, IfSome, MatchResult};
+ghost use Rattle.std.specs.Prelude.{◌≡◌, ◌↔◌, ◌<◌, ◌≤◌, ◌^◌, List, ℕ, drop, length, true, IsTrue, nat_le, Some, None, Err, IfSome, MatchResult};
 ghost use Rattle.std.specs.List.{list_all};
-ghost use Rattle.image_loader.specs.Table.{instr_limit};
+ghost use Rattle.venice_isa.specs.Limits.{instruction_limit};
 ghost use Rattle.ven_io.specs.Tokens.{place_of};
 ghost use Rattle.ven_io.specs.Token.{IsSpelling, bytes_of};
 ghost use Rattle.venice_asm.specs.Faults.{IsAnswered};
@@ -12,7 +12,7 @@ ghost use Rattle.venice_asm.specs.Fitting.{IsSmall};
 ghost use Rattle.venice_asm.specs.declared.head.Head.TheVariants as heads;
 ghost use Rattle.venice_asm.specs.Parts.{IsWholeInstr};
 ghost use Rattle.venice_asm.specs.Spelling.{head_word, keyword_among};
-ghost use Rattle.venice_asm.specs.Moves.{IsHeadOf, IsNoInstr, IsEntered, IsNamed, RefusesName, TakesOperand, RefusesOperand, TakesFirst, RefusesFirst, TakesLabel, RefusesLabel, TakesBehindLabel, RefusesBehindLabel, TakesBehind, RefusesBehind, IsGrown, IsEnded, AddsOne, AddsArray, AddsInstr, HasRoom, TakesInstr, RefusesInstr, TakesBehindName, RefusesBehindName, IsReady, TakesIn, RefusesIn, RefusesAll, TakesToken, RefusesToken, TakesEnd, RefusesEnd, may_end};
+ghost use Rattle.venice_asm.specs.Moves.{IsHeadOf, IsNoInstr, IsEntered, IsNamed, RefusesName, TakesOperand, RefusesOperand, TakesFirst, RefusesFirst, TakesLabel, RefusesLabel, TakesBehindLabel, RefusesBehindLabel, TakesBehind, RefusesBehind, IsGrown, IsEnded, AddsOne, AddsArray, AddsInstr, HasRoom, TakesInstr, RefusesInstr, TakesBehindName, RefusesBehindName, IsArrayLabel, TakesColon, RefusesColon, IsReady, TakesIn, RefusesIn, RefusesAll, TakesToken, RefusesToken, TakesEnd, RefusesEnd, may_end};
 ghost use Rattle.venice_asm.specs.Memory.{IsMemory};
 ghost use Rattle.venice_asm.specs.Meaning.{number_among};
 ghost use Rattle.venice_asm.specs.Steps.{IsReading, Turned};
@@ -28,11 +28,11 @@ use crate::spelling::{Keyword, keyword_among};
 use crate::statement::{array_of, instr_of, number, operation, target_of};
 use crate::word::Word;
 use crate::words::word_of;
-use image_loader::{ARRAY_LIMIT, INSTR_LIMIT};
+use image_loader::ARRAY_LIMIT;
 use indexmap::IndexMap;
 use std::alloc::Global;
 use ven_io::{Token, TokenFault, TokenKind, next};
-use venice_isa::{Instr, Version};
+use venice_isa::{INSTRUCTION_LIMIT, Instr, Version};
 
 /// What has been read, up to the place `from`: what the whole lines say, and a part of the next one. Of the arrays the
 /// first 256 are kept; `array_count` counts them all. `from` counts bytes of the text from 0; `spad` and `memory` are
@@ -125,9 +125,9 @@ impl Reading {
 
     /// Whether there are as many instructions as there may be.
     fn is_full(&self) -> bool
-        ensures { result ≡ nat_le instr_limit (length self.now.instrs.items) }
+        ensures { result ≡ nat_le instruction_limit (length self.now.instrs.items) }
     {
-        self.instrs.len() >= INSTR_LIMIT as usize
+        self.instrs.len() >= INSTRUCTION_LIMIT as usize
     }
 
     /// The word of an instruction of the text's version.
@@ -220,7 +220,7 @@ impl Reading {
 
     /// A `:` behind a name: a label, which stands for the next instruction.
     fn take_label(&mut self, opening: &Opening) -> Result<(), AsmFault>
-        requires { length self.old.instrs.items ≤ instr_limit }
+        requires { length self.old.instrs.items ≤ instruction_limit }
         ensures { MatchResult result (λ _. TakesLabel opening.now.name self.old self.new)
             (RefusesLabel self.old opening.now) }
     {
@@ -232,7 +232,7 @@ impl Reading {
 
     /// A new label, which stands for the next instruction.
     fn add(&mut self, name: Label) -> Result<(), AsmFault>
-        requires few { length self.old.instrs.items ≤ instr_limit }
+        requires few { length self.old.instrs.items ≤ instruction_limit }
         requires fresh { number_among self.old.labels.entries name ≡ None }
         ensures { MatchResult result (λ _. TakesLabel name self.old self.new) IsMemory }
     {
@@ -418,6 +418,28 @@ impl Reading {
         }
     }
 
+    /// Whether a `:` makes the line's first word a label: that of arrays alone, with nothing behind it.
+    fn is_array_label(&self, head: Head) -> bool
+        ensures { IsTrue result ↔ IsArrayLabel head self.now }
+    {
+        matches!(head, Head::Array) && self.operands.is_empty()
+    }
+
+    /// A `:` behind a line's first word and some operands: the word of arrays is a label there, which begins the code.
+    fn take_colon(&mut self, head: Head, last_at: u32, at: u32) -> Result<(), AsmFault>
+        requires { length self.old.instrs.items ≤ instruction_limit }
+        ensures { MatchResult result (λ _. TakesColon head self.old self.new)
+            (RefusesColon head last_at at self.old) }
+    {
+        if !self.is_array_label(head) {
+            return Err(AsmFault::Unexpected { at });
+        }
+        match Label::from_bytes(b"array") {
+            Some(name) => self.take_label(&Opening { name, at: last_at }),
+            None => unreachable!(),
+        }
+    }
+
     /// Takes a word that stands at this place.
     fn take(&mut self, word: &Word, at: u32) -> Result<(), AsmFault>
         requires small { IsSmall word.now }
@@ -429,7 +451,10 @@ impl Reading {
             Phase::Start => self.take_first(word, at),
             Phase::AfterName(opening) => self.take_behind_name(&opening, word, at),
             Phase::AfterLabel => self.take_behind_label(word, at),
-            Phase::Behind(head, last_at) => self.take_behind(head, last_at, word, at),
+            Phase::Behind(head, last_at) => match word {
+                Word::Colon => self.take_colon(head, last_at, at),
+                _ => self.take_behind(head, last_at, word, at),
+            },
         }
     }
 

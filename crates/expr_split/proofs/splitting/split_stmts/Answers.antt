@@ -1,4 +1,5 @@
 use Rattle.std.proofs.Common.{◌≡◌, ◌++◌, ◌≤◌, All, arith, rules, subst, sym, ap, ◌∙◌, List, length, map}
+use Rattle.ven_base.specs.Limits.{memory_limit}
 use Rattle.std.proofs.lemmas.List.{length-map}
 use Rattle.shape_check.specs.declared.typed.ArrayType.{ArrayType}
 use Rattle.shape_check.specs.Checked.{program_of}
@@ -42,4 +43,4 @@ place_all-requires c =
     c.deref-3.ensures.value ∙ c.in_ok-push_draft_types.ensures
     ∙ (λ i. c.in_ok-types.ensures i ++ map type_of_draft (map plain_draft (c.deref-2.ensures.value i)))
     ∙ ap (λ (ds : List Draft). types_of_inputs program ++ map type_of_draft ds) c.in_ok-planned.ensures.passes in
-    subst (λ (types : List ArrayType). end_from 0 types ≤ 134217728) (sym all) (memory-few program c.requires.program)
+    subst (λ (types : List ArrayType). end_from 0 types ≤ memory_limit) (sym all) (memory-few program c.requires.program)
