@@ -8,14 +8,15 @@ use std::alloc::Global;
 use std::test::Fail;
 use ven_base::{Array, Arrays, CELL_LIMIT, Elem, Name, Shape};
 use venice_asm::assemble;
-use venice_machine::{Cycle, Grants, Machine, MakeFault, read_grants};
+use venice_machine::{Cycle, Grants, Machine, MakeFault, Stop, read_grants};
 
-/// A read of 16 bytes, another of 1 byte, and an addition to the first, with a wait before it.
+/// A read of 16 bytes, another of 1 byte, an addition to the first ones, and a write of two of the sums, with waits
+/// between them.
 const READS_AND_ADDITION: &[u8] = b"version 2
 spad 17
-memory 16
+memory 32
 array x in u8[1,16] 0
-array y out u8[1,2] 0
+array y out u8[1,2] 16
 li r1 16
 li r2 1
 set mbytes r1
@@ -29,6 +30,12 @@ set spad r1
 dma read
 rwait r0
 vec add u8 vs
+vwait
+set spad r0
+set mem r1
+li r3 2
+set mbytes r3
+dma write
 halt
 ";
 
@@ -76,7 +83,7 @@ fn make(alloc: Global, image: Image, spad: u32, inputs: &Arrays) -> Result<Machi
     Machine::new(alloc, image, 4, spad, inputs)
 }
 
-/// The machine of the two reads and the addition, with 250 in each byte of `x`.
+/// The machine of these works, with 250 in each byte of `x`.
 fn machine(alloc: Global) -> Option<Machine>
     ensures { IfSome result (λ machine. machine.cycles ≡ 0) }
 {
@@ -185,13 +192,13 @@ fn a_run_and_what_it_leaves(rt: HostRuntime) {
     let Some(mut machine) = machine(rt.alloc()) else {
         panic!(rt; "no machine");
     };
-    // Twelve steps of the host are behind it, and the second read has gone on, before the addition's beats.
-    assert_eq!(rt; run(&mut machine, &Grants::new(rt.alloc())), Some((20, 17)));
-    assert_eq!(rt; machine.issued(), 3);
+    // 20 steps of the host, one a cycle, and a beat of each of the four works.
+    assert_eq!(rt; run(&mut machine, &Grants::new(rt.alloc())), Some((24, 20)));
+    assert_eq!(rt; machine.issued(), 4);
     assert!(rt; has_halted(&mut machine));
 }
 
-/// The values of the first output.
+/// Whether the first output has these values.
 fn first_output(alloc: Global, machine: &Machine, values: &[i64]) -> bool {
     match machine.outputs(alloc) {
         Ok(arrays) => !arrays.is_empty() && *arrays.array(0).values == *values,
@@ -205,7 +212,16 @@ fn outputs_behind_a_run(rt: HostRuntime) {
         panic!(rt; "no machine");
     };
     assert!(rt; run(&mut machine, &Grants::new(rt.alloc())).is_some());
-    assert!(rt; first_output(rt.alloc(), &machine, &[250, 250]));
+    assert!(rt; first_output(rt.alloc(), &machine, &[251, 251]));
+}
+
+#[test]
+fn no_step_may_be_made(rt: HostRuntime) {
+    let Some(mut machine) = machine(rt.alloc()) else {
+        panic!(rt; "no machine");
+    };
+    let ended = machine.run(&Grants::new(rt.alloc()), 0);
+    assert!(rt; matches!(ended, Err(Stop::Budget { steps: 0 })));
 }
 
 /// Why a program that is `halt` alone has no machine in so many cells with these values in `x`.

@@ -383,6 +383,27 @@ fn turns(alloc: Global, count: u32) -> Result<Vec<Issue>, Fail> {
     Ok(list)
 }
 
+/// So many reads, each to other cells than the seven before it, and each after a wait for the one eight before it.
+fn rolling_reads(alloc: Global, count: u32) -> Result<Vec<Issue>, Fail> {
+    let mut list = Vec::new(alloc);
+    for k in 0..count {
+        let tag = k % 8;
+        list.push(Issue::TWait(tag))?;
+        list.push(read(16 * tag, tag))?;
+    }
+    Ok(list)
+}
+
+#[test]
+fn many_issues_with_few_works_in_flight(rt: HostRuntime) -> Result<(), Fail> {
+    let mut list = rolling_reads(rt.alloc(), 50_000)?;
+    assert_eq!(rt; found(Version::Two, &list), None);
+    list.pop();
+    list.push(read(16, 0))?;
+    assert_eq!(rt; found(Version::Two, &list), Some((99_987, 99_999)));
+    Ok(())
+}
+
 #[test]
 fn long_lists(rt: HostRuntime) -> Result<(), Fail> {
     let mut list = turns(rt.alloc(), 31_250)?;

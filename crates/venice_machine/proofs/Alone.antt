@@ -1,5 +1,5 @@
 -- Cycles in which the host alone can step.
-use Rattle.std.proofs.Common.{◌≡◌, ◌∙◌, ℕ, ◌+◌, ◌<◌, ◌&&◌, ◌==◌, arith, sym, refl, ap, subst, List, [], ◌∷◌, length, Option, None, Bool, true, false, cond, nat_lt, is_none}
+use Rattle.std.proofs.Common.{◌≡◌, ◌∙◌, ℕ, ◌+◌, ◌<◌, ◌&&◌, ◌==◌, arith, sym, refl, ap, subst, [], ◌∷◌, Option, None, true, false, cond, nat_lt, is_none}
 use Rattle.venice_isa.specs.declared.host.Deed.{Deed}
 use Rattle.venice_isa.specs.declared.host.Deed.TheVariants.{Halts, Moves, Passes}
 use Rattle.venice_isa.specs.declared.host.HostState.{HostState}

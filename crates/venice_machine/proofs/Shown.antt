@@ -23,7 +23,7 @@ use Rattle.venice_machine.specs.State.{IssuedWork, Jobs, issued_course, queue, u
 use Rattle.venice_machine.specs.Step.{is_hazard, may_step}
 use Rattle.venice_machine.specs.Machine.{Queues, UnitWorks, ShowsJobs}
 use Rattle.venice_machine.specs.Kept.{AreNumbered, AllNumbered, AllLieIn, unit_course, works_after_beat, with_issue, queues_with, waiting_in, number_in, is_against, is_hazard_among}
-use Rattle.venice_machine.proofs.Numbered.{length_in, any_in, count_in, number_in, pushed_in, beaten_in, store_in, left_as_many}
+use Rattle.venice_machine.proofs.Numbered.{length_in, any_in, count_in, numbers_in, pushed_in, beaten_in, store_in, left_as_many}
 use Rattle.venice_machine.proofs.Divided.{IsWork, AreWorks, any_of_units, length_of_units, tagged_of_units, works_beaten, others_place}
 use Rattle.venice_machine.proofs.Queues.{queue_pushed, own_beaten, own_store, other_queue_stays}
 
@@ -115,9 +115,9 @@ module _ (queues : Queues) (jobs : Jobs) (shown : ShowsJobs queues jobs) (number
     where
       go : (first second : Bool) → number_at (cond first Lanes (cond second ReadChannel WriteChannel)) k jobs
           ≡ cond first (slice_get queues.lanes.numbers k) (cond second (slice_get queues.reads.numbers k) (slice_get queues.writes.numbers k))
-      go true second = ap (number_of k) shown.of_lanes ∙ numbers_in k Vector queues.lanes.numbers queues.lanes.jobs numbered.of_lanes
-      go false true = ap (number_of k) shown.of_reads ∙ numbers_in k Read queues.reads.numbers queues.reads.jobs numbered.of_reads
-      go false false = ap (number_of k) shown.of_writes ∙ numbers_in k Write queues.writes.numbers queues.writes.jobs numbered.of_writes
+      go true second = ap (number_of k) shown.of_lanes ∙ numbers_in Vector k queues.lanes.numbers queues.lanes.jobs numbered.of_lanes
+      go false true = ap (number_of k) shown.of_reads ∙ numbers_in Read k queues.reads.numbers queues.reads.jobs numbered.of_reads
+      go false false = ap (number_of k) shown.of_writes ∙ numbers_in Write k queues.writes.numbers queues.writes.jobs numbered.of_writes
 
   -- ---- beats
 
