@@ -11,7 +11,7 @@ room=$(mktemp -d)
 trap 'rm -r -- "$room"' EXIT
 
 if [ -z "${PROGRAM:-}" ]; then
-    "$top/venice" > "$room/words" || true
+    VENICE_BUILD=proved "$top/venice" > "$room/words" || true
     PROGRAM=$top/crates/venice/out/venice
 fi
 

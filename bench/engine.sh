@@ -16,7 +16,7 @@ room=$(mktemp -d)
 trap 'rm -r -- "$room"' EXIT
 cd -- "$room"
 if [ -z "${PROGRAM:-}" ]; then
-    "$top/venice" > words || true
+    VENICE_BUILD=proved "$top/venice" > words || true
     PROGRAM=$top/crates/venice/out/venice
 fi
 : > inputs

@@ -29,7 +29,7 @@ echo 'input a u8[1,2048]; input b u8[1,2048]; output y = a + b;' | filled_up > p
 } | filled_up > inputs
 
 words=(run program inputs image 4 14336)
-"$top/venice" "${words[@]}" > sums
+VENICE_BUILD=proved "$top/venice" "${words[@]}" > sums
 program=$top/crates/venice/out/venice
 
 ms() { sed -n "$1p" times | awk '{ printf "%.1f ms", $1 / 1000 }'; }

@@ -4,14 +4,29 @@ What the documents show of the program is what it prints.
   $ cp -r "$TESTDIR/../../README.md" "$TESTDIR/../../docs" "$TESTDIR/../../examples" .
   $ blocks() { awk '/^```/ { inside = !inside; if (!inside) print "```"; next } inside' "$1"; }
 
-README shows two files as they are, and commands with their output.
+README shows a file as it is. Its picture has a square for each value of the inputs, and then for each value of what is printed.
 
   $ blocks README.md | awk -v RS='```\n' '/^# A 3 by 3 blur/' | grep . | cmp - examples/blur.ven
-  $ blocks README.md | awk -v RS='```\n' '/^# One white square/' | grep . | cmp - examples/blur.arrays
-  $ blocks README.md | awk '/^\$ \.\/venice/ { shown = 1 } /^```/ { shown = 0 } shown' > shown
-  $ grep -c '^\$' shown
-  7
-  $ grep '^\$' shown | while read -r sign program words; do echo "$sign $program $words"; venice $words; done | cmp - shown
+  $ { sed '1,2d' examples/blur.arrays; venice eval examples/blur.ven examples/blur.arrays | sed 1d; } | xargs -n 1 > values
+  $ awk '/<g>/ { print "" } /<rect x/' docs/blur.svg | sed 's/.*rgb(\([0-9]*\),.*/\1/' | sed '/^$/d' > greys
+  $ cmp values greys
+
+The pages that show commands with what they print. Each is made a transcript of its own, in a folder that stands for the top of the
+repository, out of its blocks that begin with a command. A page that draws pictures wants Debian's numpy and pil.
+
+  $ transcript() {
+  >   grep -q '^\$ \./tools/[pf]i' "$1" && echo "  \$ /usr/bin/python3 -c 'import numpy, PIL' 2>/dev/null || exit 80"
+  >   printf '  $ cp -r "%s"/* .\n  $ PATH=/usr/bin:$PATH\n' "$PWD/top"
+  >   awk '/^```/ { inside = !inside; shown = 0; next } inside && /^\$ / { shown = 1 } shown { print "  " $0 }' "$1"
+  > }
+  $ mkdir top pages
+  $ cp -r examples top
+  $ ln -s "$TESTDIR/../../venice" "$TESTDIR/../../tools" top
+  $ for page in README.md docs/COOKBOOK.md docs/tutorial/*.md; do transcript $page > pages/$(basename $page .md).t; done
+  $ grep -c '^  \$' pages/*.t | grep -c ':[0-3]$'
+  0
+  [1]
+  $ cram3 --shell=/bin/bash pages/*.t > said 2>&1 || cat said
 
 Each rule of a program that docs/LANGUAGE.md lists has an example and its line.
 

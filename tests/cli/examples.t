@@ -28,6 +28,39 @@ Assembler programs.
   $ run tiles 2 16 | tail -n 2
   steps 70
   cycles 54
+  $ run matvec 4 76
+  y i32[3,1]
+  7
+  34
+  56
+  steps 32
+  cycles 24
+  $ venice asm double.asm "$CRAMTMP/double.image"
+  $ venice asm serial.asm "$CRAMTMP/serial.image"
+  $ for lanes in 1 2 4; do
+  >   for name in serial double; do
+  >     venice exec "$CRAMTMP/$name.image" serial.arrays $lanes 512 1000 > "$CRAMTMP/$name.out"
+  >     head -n 9 "$CRAMTMP/$name.out" > "$CRAMTMP/$name.sums"
+  >     echo $lanes $name $(tail -n 1 "$CRAMTMP/$name.out")
+  >   done
+  >   cmp "$CRAMTMP/serial.sums" "$CRAMTMP/double.sums"
+  > done
+  1 serial cycles 226
+  1 double cycles 206
+  2 serial cycles 162
+  2 double cycles 142
+  4 serial cycles 130
+  4 double cycles 110
+  $ cut -d ' ' -f 1,2,63,64 "$CRAMTMP/double.sums"
+  y u8[8,64]
+  100 102 224 226
+  116 118 240 242
+  132 134 0 2
+  148 150 16 18
+  164 166 32 34
+  180 182 48 50
+  196 198 64 66
+  212 214 80 82
   $ run race 4 16
   steps 12
   cycles 10
@@ -86,3 +119,40 @@ Programs of the whole language.
   $ venice eval fir.ven fir.arrays
   y i16[1,10]
   3 2 -1 0 0 15 25 20 20 20
+  $ venice eval sobel.ven sobel.arrays
+  y u8[6,8]
+  120 80 80 80 80 80 80 120
+  80 0 80 160 160 160 80 80
+  80 0 160 240 160 240 160 80
+  80 0 160 160 0 160 160 80
+  80 0 160 240 160 240 160 80
+  120 80 160 240 240 240 160 120
+  $ venice eval median.ven median.arrays
+  y u8[5,6]
+  0 10 20 30 40 0
+  10 20 30 40 50 50
+  10 20 30 40 50 50
+  10 20 30 40 50 50
+  0 10 20 30 40 0
+  $ venice eval mirror.ven mirror.arrays
+  y u8[3,8]
+  0 0 200 0 0 0 0 0
+  0 220 200 180 160 140 120 100
+  0 0 200 0 0 0 0 0
+  $ venice eval product.ven product.arrays
+  y i32[3,2]
+  7 1
+  34 2
+  56 17
+  $ venice eval bins.ven bins.arrays
+  y u32[1,16]
+  3 2 2 2 0 0 3 1 4 0 0 0 4 0 0 3
+  $ venice eval blend.ven blend.arrays
+  y u8[3,6]
+  0 50 130 180 200 250
+  0 80 250 255 230 250
+  0 50 130 180 200 250
+  rest u8[3,6]
+  0 50 70 120 200 250
+  0 20 0 0 170 250
+  0 50 70 120 200 250

@@ -5,6 +5,8 @@
 #![tactic(auto)]
 
 #[cfg(test)]
+mod asm;
+#[cfg(test)]
 mod channels;
 #[cfg(test)]
 mod host;

@@ -1,0 +1,172 @@
+`tools/ven` is the program with help. It wants python3, and is skipped without.
+
+  $ command -v python3 > /dev/null || exit 80
+  $ ven() { "$TESTDIR/../../tools/ven" "$@"; }
+  $ cp "$TESTDIR"/../../examples/add.* .
+
+Its output and statuses are the program's.
+
+  $ ven eval add.ven add.arrays
+  y u8[1,4]
+  5 7 9 4
+  $ ven asm add.asm add.image
+  $ ven exec add.image add.arrays 4 12 100
+  y u8[1,4]
+  5 7 9 4
+  steps 24
+  cycles 20
+
+The commands, and the words of one.
+
+  $ ven help
+  usage: ven COMMAND WORDS..
+  
+    eval PROGRAM INPUTS                                       prints the outputs of the program, by the plain evaluator
+    check PROGRAM SPAD                                        prints the outputs' shapes, the need, the passes with their tiles, and the bound
+    explain PROGRAM                                           prints for each pass an order of evaluation, and how many results it holds
+    run PROGRAM INPUTS IMAGE LANES SPAD                       prints the sum of two arrays of one row
+    asm TEXT IMAGE                                            assembles a text and saves the image; it prints nothing
+    disasm IMAGE                                              prints the canonical assembler text of an image
+    exec IMAGE INPUTS LANES SPAD BUDGET [GRANTS]              runs an image, and prints its outputs, the steps and the cycles
+  
+  `ven help COMMAND` tells its words. A status other than 0 is a refusal:
+  
+     2  the words aren't a command's
+     3  the program is refused
+     4  the inputs or the grants are refused
+     5  the scratchpad is too small
+     6  the image or the assembler text is refused
+     7  the machine stopped before `halt`
+     8  a file can't be read
+     9  the output wasn't taken
+    10  memory ran out
+    14  the image can't be saved
+    15  a word isn't UTF-8
+  $ ven help exec
+  usage: ven exec IMAGE INPUTS LANES SPAD BUDGET [GRANTS]
+  It runs an image, and prints its outputs, the steps and the cycles.
+  
+    IMAGE    the image, which `asm` makes of an assembler text
+    INPUTS   the array file with the inputs
+    LANES    the number of lanes, 1 to 4
+    SPAD     the bytes of the scratchpad, 1 to 1048576
+    BUDGET   the most steps that the machine may make, 1 to 1099511627776
+    GRANTS   who may step in each cycle; without it all may (tools/grants writes such files)
+  
+  for example: ven exec add.image examples/add.arrays 4 12 100
+  $ ven help sort
+  `sort` is no command
+  the commands are eval check explain run asm disasm exec
+  [2]
+
+Words that aren't a command's: which is wrong, and what it may be. Whether a number is, the program is asked.
+
+  $ ven
+  usage: ven COMMAND WORDS..
+  
+    eval PROGRAM INPUTS                                       prints the outputs of the program, by the plain evaluator
+    check PROGRAM SPAD                                        prints the outputs' shapes, the need, the passes with their tiles, and the bound
+    explain PROGRAM                                           prints for each pass an order of evaluation, and how many results it holds
+    run PROGRAM INPUTS IMAGE LANES SPAD                       prints the sum of two arrays of one row
+    asm TEXT IMAGE                                            assembles a text and saves the image; it prints nothing
+    disasm IMAGE                                              prints the canonical assembler text of an image
+    exec IMAGE INPUTS LANES SPAD BUDGET [GRANTS]              runs an image, and prints its outputs, the steps and the cycles
+  
+  `ven help COMMAND` tells its words. A status other than 0 is a refusal:
+  
+     2  the words aren't a command's
+     3  the program is refused
+     4  the inputs or the grants are refused
+     5  the scratchpad is too small
+     6  the image or the assembler text is refused
+     7  the machine stopped before `halt`
+     8  a file can't be read
+     9  the output wasn't taken
+    10  memory ran out
+    14  the image can't be saved
+    15  a word isn't UTF-8
+  [2]
+  $ ven exce add.image add.arrays 4 12 100
+  error: usage
+  `exce` is no command; is `exec` meant?
+  the commands are eval check explain run asm disasm exec
+  [2]
+  $ ven exec add.image add.arrays 4 12
+  error: usage
+  BUDGET is missing
+  usage: exec IMAGE INPUTS LANES SPAD BUDGET [GRANTS]
+  [2]
+  $ ven exec add.image add.arrays 5 012 100 add.grants more
+  error: usage
+  `more` is a word too many
+  LANES is `5`: it has to be the number of lanes, 1 to 4, in plain decimals
+  SPAD is `012`: it has to be the bytes of the scratchpad, 1 to 1048576, in plain decimals
+  usage: exec IMAGE INPUTS LANES SPAD BUDGET [GRANTS]
+  [2]
+  $ ven check add.ven 1048577
+  error: usage
+  SPAD is `1048577`: it has to be the bytes of the scratchpad, 1 to 1048576, in plain decimals
+  usage: check PROGRAM SPAD
+  [2]
+
+Files that aren't there.
+
+  $ ven eval add.ven ad.arrays
+  error: file
+  INPUTS: there is no file `ad.arrays`; is `add.arrays` or `add.asm` meant?
+  [8]
+  $ ven exec add.image add.arrays 4 12 100 late.grants
+  error: file
+  GRANTS: there is no file `late.grants`
+  [8]
+  $ ven eval add.ven no/add.arrays
+  error: file
+  INPUTS: there is no file `no/add.arrays`; there is no folder `no`
+  [8]
+  $ ven eval . add.arrays
+  error: file
+  PROGRAM: `.` is a folder
+  [8]
+
+No image is saved over a file that is none; over an older one it is.
+
+  $ ven asm add.asm add.ven
+  error: save
+  IMAGE is `add.ven`, which is there and is no image; remove it first
+  [14]
+  $ ven asm add.asm add.asm
+  error: save
+  IMAGE is `add.asm`, which is TEXT too, and would be lost
+  [14]
+  $ ven asm add.asm no/add.image
+  error: save
+  IMAGE: there is no folder `no`
+  [14]
+  $ ven asm add.asm add.image
+
+A refusal of a text is explained as tools/why does. The explanation goes to standard error.
+
+  $ echo 'input a u8[1,4]; output y = a / 2;' > half.ven
+  $ ven eval half.ven add.arrays 2> why.txt
+  error: program unexpected at 30
+  [3]
+  $ cat why.txt
+  half.ven:1:31: `/` can't stand here
+      input a u8[1,4]; output y = a / 2;
+                                    ^
+  here could stand: a binary sign (* + << >> & ^ | == != < <= > >=), `-`, `;`
+  hint: there is no division; `x >> k` divides by 2 to the k, rounded down
+  $ ven exec add.asm add.arrays 4 12 100
+  error: image magic
+  add.asm: an image begins with `VNC1` or `VNC2`, and this file doesn't
+  this file is an assembler text; `asm add.asm add.image` makes an image of it
+  [6]
+  $ ven check add.ven 5
+  error: scratchpad need 7 have 5
+  the program's passes need a scratchpad of 7 bytes; SPAD has to be at least that
+  [5]
+
+A full disk under the output.
+
+  $ ven eval add.ven add.arrays > /dev/full
+  [9]

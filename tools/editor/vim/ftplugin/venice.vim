@@ -1,0 +1,3 @@
+setlocal commentstring=#\ %s
+setlocal comments=:#
+let b:undo_ftplugin = 'setlocal commentstring< comments<'

@@ -1,0 +1,1 @@
+"""What the tools share. Each module says in its first line what it is for."""
