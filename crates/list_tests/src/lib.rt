@@ -7,8 +7,26 @@
 #![tactic(auto)]
 
 #[cfg(test)]
+mod best_orders;
+#[cfg(test)]
+mod instructions;
+#[cfg(test)]
+mod laws;
+#[cfg(test)]
+mod lists;
+#[cfg(test)]
+mod orders;
+#[cfg(test)]
+mod pieces;
+#[cfg(test)]
 mod programs;
+#[cfg(test)]
+mod splits;
 #[cfg(test)]
 mod tests;
 #[cfg(test)]
+mod tiles;
+#[cfg(test)]
 mod transfers;
+#[cfg(test)]
+mod trees;

@@ -31,7 +31,7 @@ use ven_base::{Array, Arrays, Elem, Entry, Shape, wrap};
 use venice_isa::{DmaWork, Issue, VecWork, Version, issues};
 
 /// The checked program of a text.
-fn checked_program(alloc: Global, text: &str) -> Option<Checked> {
+pub(crate) fn checked_program(alloc: Global, text: &str) -> Option<Checked> {
     if text.len() > 65_536 {
         return None;
     }
@@ -323,7 +323,7 @@ fn outputs_of(alloc: Global, program: &Checked, inputs: &Arrays) -> Result<Array
 }
 
 /// The split of a checked program.
-fn split_of_program(alloc: Global, program: &Checked) -> Result<Split, AllocError>
+pub(crate) fn split_of_program(alloc: Global, program: &Checked) -> Result<Split, AllocError>
     ensures small { IfOk result (λ split. AreSmall (passes_of split.passes.items)) }
     ensures sound { IfOk result (λ split. IsSound (split_of split)) }
     ensures few { IfOk result (λ split. nodes_in (split_of split) ≤ split_nodes_limit) }

@@ -21,8 +21,9 @@ laws = record { leave = tiles_leave_results; keep = tiles_keep_to_buffers; few =
 
 pub tile-requires-clause-small : goal.tile-requires-clause-small
 tile-requires-clause-small c =
-    small c.args.split.now.arrays.items (pass_of c.pass-item.result) (tile_of (pass_of c.pass-item.result) c.args.spad)
-    (ready_one c.args.split.now c.args.spad c.loop-pass.pass-index c.deref-pass-items.result.now c.pass-item.result c.deref-pass-items.ensures.value c.requires.sound c.requires.holds (omega arith) c.loop-pass-test.true c.pass-item.is)
+    let item = c.pass-item.result in
+    let is_ready = ready_one c.args.split.now c.args.spad c.loop-pass.pass-index c.deref-pass-items.result.now item c.deref-pass-items.ensures.value c.requires.sound c.requires.holds (omega arith) c.loop-pass-test.true c.pass-item.is in
+    (small c.args.split.now.arrays.items (pass_of item) (tile_of (pass_of item) c.args.spad) is_ready).few_nodes
 
 pub tile-requires-clause-holds : goal.tile-requires-clause-holds
 tile-requires-clause-holds c =
