@@ -90,3 +90,33 @@ A file that can't be saved: status 14. Only `asm` saves, and only under its last
   folder
   halt.asm
   halt.image
+
+Streams are files: standard input, a pipe, and for what is saved standard output. A stream has its bytes once.
+
+  $ echo 'input a u8[1,2]; output y = a + 1;' > one.ven
+  $ echo 'a u8[1,2] 1 2' > one.arrays
+  $ venice eval /dev/stdin one.arrays < one.ven
+  y u8[1,2]
+  2 3
+  $ mkfifo pipe
+  $ cat one.arrays > pipe &
+  $ venice eval one.ven pipe
+  y u8[1,2]
+  2 3
+  $ cat one.ven | venice eval /dev/stdin /dev/stdin
+  error: inputs missing a
+  [4]
+  $ printf 'spad 1\nmemory 0\nhalt\n' > halt.asm
+  $ venice asm halt.asm /dev/stdout | venice disasm /dev/stdin
+  spad 1
+  memory 0
+  halt
+
+An image may be saved over its text.
+
+  $ cp halt.asm over.asm
+  $ venice asm over.asm over.asm
+  $ venice disasm over.asm | cmp - halt.asm
+  $ venice asm over.asm over.asm
+  error: text unexpected at 0
+  [6]

@@ -331,6 +331,11 @@ Images, grants, and stops of the machine.
   error: image truncated at 60
   cut.image: instruction 3, the bytes (none) at 60, isn't whole
   [6]
+  $ printf 'VNC1\020\0\0\0\0\0\0\0\377\377\377\377\1\0\0\0' > many.image
+  $ why disasm many.image
+  error: image table at 12
+  many.image: the number of arrays breaks its rule
+  [6]
   $ echo '00,00' > bad.grants
   $ why exec race.image race.arrays 4 16 100 bad.grants
   error: grants bad at 2

@@ -8,7 +8,9 @@ def code_place(content):
     """The place of the first instruction, behind the table's entries."""
     place = 20
     for _ in range(int.from_bytes(content[12:16], "little")):
-        place += 1 + content[place] + 14 if place < len(content) else 0
+        if place >= len(content):
+            break
+        place += 1 + content[place] + 14
     return place
 
 
