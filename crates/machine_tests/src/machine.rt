@@ -1,6 +1,6 @@
 //! The clocked machine, `venice_machine`: what it shows cycle by cycle, and images that make none. Whole runs, their
 //! counts and their stops are transcripts.
-ghost use Rattle.std.specs.Prelude.{◌≡◌, IfSome, IfOk};
+ghost use Rattle.std.specs.Prelude.{◌≡◌, ◌+◌, ◌<◌, ◌≤◌, ◌^◌, IfSome, IfOk};
 
 use array_file::FitFault;
 use image_loader::Image;
@@ -129,21 +129,21 @@ fn a_new_machine(rt: HostRuntime) {
     assert!(rt; what_shows(&machine) == shown);
 }
 
-/// Makes so many cycles with one grant.
-fn cycles(machine: &mut Machine, grant: u8, count: u32) {
-    for _ in 0..count {
-        let counts = machine.counts();
-        if counts.cycles < 1_000 {
-            let _ = machine.cycle(grant, 100);
-        }
+/// Makes so many cycles in which the host alone may step.
+fn host_cycles(machine: &mut Machine, count: u32)
+    requires few { machine.old.cycles < 2 ^ 32 }
+    ensures { machine.new.cycles ≤ machine.old.cycles + count }
+{
+    for _k in 0..count {
+        let _ = machine.cycle(0x01, 100);
     }
 }
 
 /// What a cycle is in which these may step: the bits of those that do.
-fn units(machine: &mut Machine, grant: u8) -> Option<u8> {
-    if machine.counts().cycles > 1_000 {
-        return None;
-    }
+fn units(machine: &mut Machine, grant: u8) -> Option<u8>
+    requires few { machine.old.cycles < 2 ^ 32 }
+    ensures { machine.new.cycles ≤ machine.old.cycles + 1 }
+{
     match machine.cycle(grant, 100) {
         Cycle::Went { units } => Some(units),
         _ => None,
@@ -157,7 +157,7 @@ fn cycles_and_who_steps_in_them(rt: HostRuntime) {
     };
     assert_eq!(rt; units(&mut machine, 0x0e), Some(0));
     assert_eq!(rt; units(&mut machine, 0x01), Some(1));
-    cycles(&mut machine, 0x01, 10);
+    host_cycles(&mut machine, 10);
     let shown = Shown {
         pc: 11,
         issued: 2,
@@ -171,20 +171,17 @@ fn cycles_and_who_steps_in_them(rt: HostRuntime) {
     assert_eq!(rt; what_shows(&machine).seconds, [None; 2]);
 }
 
-/// Runs the machine to its end; its steps and cycles.
-fn run(machine: &mut Machine, grants: &Grants) -> Option<(u64, u64)> {
-    if machine.counts().cycles > 1_000 {
+/// Runs the machine to its end, with no grants before; its steps and cycles, and whether one cycle more says that it has
+/// ended at `halt`.
+fn run(alloc: Global, machine: &mut Machine) -> Option<(u64, u64, bool)>
+    requires { machine.old.cycles ≡ 0 }
+{
+    let grants = Grants::new(alloc);
+    let Ok(counts) = machine.run(&grants, 100) else {
         return None;
-    }
-    match machine.run(grants, 100) {
-        Ok(counts) => Some((counts.steps, counts.cycles)),
-        Err(_) => None,
-    }
-}
-
-/// Whether one cycle more says that the run has ended at `halt`.
-fn has_halted(machine: &mut Machine) -> bool {
-    machine.counts().cycles <= 1_000 && matches!(machine.cycle(0x0f, 100), Cycle::Halted)
+    };
+    let halted = matches!(machine.cycle(0x0f, 100), Cycle::Halted);
+    Some((counts.steps, counts.cycles, halted))
 }
 
 #[test]
@@ -193,9 +190,8 @@ fn a_run_and_what_it_leaves(rt: HostRuntime) {
         panic!(rt; "no machine");
     };
     // 20 steps of the host, one a cycle, and a beat of each of the four works.
-    assert_eq!(rt; run(&mut machine, &Grants::new(rt.alloc())), Some((24, 20)));
+    assert_eq!(rt; run(rt.alloc(), &mut machine), Some((24, 20, true)));
     assert_eq!(rt; machine.issued(), 4);
-    assert!(rt; has_halted(&mut machine));
 }
 
 /// Whether the first output has these values.
@@ -211,7 +207,7 @@ fn outputs_behind_a_run(rt: HostRuntime) {
     let Some(mut machine) = machine(rt.alloc()) else {
         panic!(rt; "no machine");
     };
-    assert!(rt; run(&mut machine, &Grants::new(rt.alloc())).is_some());
+    assert!(rt; run(rt.alloc(), &mut machine).is_some());
     assert!(rt; first_output(rt.alloc(), &machine, &[251, 251]));
 }
 
