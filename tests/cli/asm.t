@@ -30,6 +30,17 @@ A label may be any name of at most 31 bytes, also an instruction's word; it need
   jmp 1
   halt
 
+In the first line of code `array` may be a label too, before its `:`; it may also be the name of an array.
+
+  $ printf 'spad 16\nmemory 4\narray array in u8[1,4] 0\narray: jmp array\nhalt\n' > array.asm
+  $ venice asm array.asm array.image
+  $ venice disasm array.image
+  spad 16
+  memory 4
+  array array in u8[1,4] 0
+  jmp 0
+  halt
+
 A text that is too long, or denotes no image, is refused by one line, and nothing is saved; places count bytes from 0.
 
   $ try() { printf "$1" > try.asm; venice asm try.asm try.image; }
@@ -86,6 +97,18 @@ A text that is too long, or denotes no image, is refused by one line, and nothin
   [6]
   $ try 'spad 16\nmemory 4\narray a in u8[1,4] 0\narray a out u8[1,4] 0\nhalt\n'
   error: text table at 37
+  [6]
+  $ try 'spad 16\nmemory 4\narray sum in u8[1,4] 0\nhalt\n'
+  error: text unexpected at 23
+  [6]
+  $ try 'spad 16\nmemory 4\narray a in u8[1,4] 0\narray u8 out u8[0,4] 0\nhalt\n'
+  error: text unexpected at 44
+  [6]
+  $ try 'spad 16\nmemory 0\narray: halt\narray: halt\n'
+  error: text label twice at 29
+  [6]
+  $ try 'spad 16\nmemory 0\narray: halt\narray a in u8[1,4] 0\n'
+  error: text unexpected at 35
   [6]
   $ try 'spad 16\nmemory 0\nli r1 5\n'
   error: text no halt

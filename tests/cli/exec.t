@@ -124,6 +124,27 @@ Grants: pairs of digits of either case, with blanks and line ends between them, 
   $ try '00,00'
   error: grants bad at 2
   [4]
+  $ try '0'
+  error: grants bad at 1
+  [4]
+  $ try 'g0'
+  error: grants bad at 0
+  [4]
+  $ try '00 0 0'
+  error: grants bad at 4
+  [4]
+  $ try '00\n0\n'
+  error: grants bad at 4
+  [4]
+  $ try '00 1'
+  error: grants bad at 4
+  [4]
+  $ try '00-'
+  error: grants bad at 2
+  [4]
+  $ try '\f00'
+  error: grants bad at 0
+  [4]
   $ head -c 2097152 /dev/zero | tr '\0' 0 > most.grants
   $ venice exec halt.image empty.arrays 1 16 1 most.grants
   steps 1
@@ -207,6 +228,10 @@ In version 2 a channel may go on with its second transfer.
   $ venice exec tags.image tags.arrays 1 48 100 first.grants
   steps 16
   cycles 17
+  $ echo '0101010101010101010101 14 14' > both.grants
+  $ venice exec tags.image tags.arrays 1 48 100 both.grants
+  steps 16
+  cycles 15
 
 IMAGE is read before all else, and is refused as by `disasm`.
 

@@ -18,6 +18,10 @@ Images whose steps and cycles, or whose stop, follow from docs/MACHINE.md by han
   $ venice exec halt.image empty.arrays 1 16 1 two.grants
   steps 1
   cycles 3
+  $ echo '0f 0f 0f' > three.grants
+  $ venice exec halt.image empty.arrays 1 17 1 three.grants
+  steps 1
+  cycles 1
   $ venice exec halt.image empty.arrays 1 15 1
   error: scratchpad need 16 have 15
   [5]
@@ -113,6 +117,19 @@ units behind the list, and a list may be longer than the run.
   5 6 1 1
   steps 20
   cycles 30
+  $ for order in '01 02 04 08' '08 04 02 01' '04 01 08 02'; do
+  >   yes "$order" | head -n 20 > alone.grants
+  >   venice exec carry.image carry.arrays 1 16 100 alone.grants | tail -n 3
+  > done
+  5 6 7 8
+  steps 22
+  cycles 73
+  5 6 7 8
+  steps 22
+  cycles 76
+  5 6 7 8
+  steps 22
+  cycles 74
 
 Half a million rows of two bytes are read into every second pair of cells, while the lanes write the cells between them. That no row of
 the one meets a row of the other is found at once.
@@ -248,6 +265,25 @@ a hazard.
   $ venice exec first.image same.arrays 1 32 100
   steps 11
   cycles 9
+
+Two vector instructions, of which the first writes what the second reads, come one after the other, also in version 2.
+
+  $ asm order <<END
+  > version 2
+  > spad 16
+  > memory 0
+  > li r1 8
+  > li r2 1
+  > set vl r1
+  > set rows r2
+  > vec add u8 vs
+  > vec add u8 vs
+  > halt
+  > END
+  $ echo '01 01 01 01 01 01' > six.grants
+  $ venice exec order.image empty.arrays 1 16 100 six.grants
+  steps 11
+  cycles 11
 
 In version 1 there are no tags.
 

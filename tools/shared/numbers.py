@@ -8,7 +8,7 @@ from shared.program import Room, ask, stop
 DEBIAN = "/usr/bin/python3"
 try:
     import numpy
-    from PIL import Image
+    from PIL import Image, ImageOps
 except ImportError as error:
     # Another Python may stand first on the path; Debian's modules are Debian's Python's.
     if os.path.exists(DEBIAN) and os.path.realpath(sys.executable) != os.path.realpath(DEBIAN) and "VENICE_AGAIN" not in os.environ:
@@ -20,10 +20,11 @@ TYPES = {"u8": "uint8", "i8": "int8", "u16": "uint16", "i16": "int16", "u32": "u
 NAMES = {numpy.dtype(kind): name for name, kind in TYPES.items()}
 HEADER = re.compile(r"([A-Za-z_]\w*)\s+([ui](?:8|16|32))\s*\[\s*(\w+)\s*,\s*(\w+)\s*\]")
 SUFFIXES = (".png", ".pgm", ".ppm", ".npy")
+LOSSY = (".jpg", ".jpeg")
 
 
 def is_picture(path):
-    return path.lower().endswith(SUFFIXES)
+    return path.lower().endswith(SUFFIXES + LOSSY)
 
 
 def number(word):
@@ -60,11 +61,11 @@ def text_of(arrays):
     return "\n".join([*lines, ""])
 
 
-def fits(kind, shape):
-    """Whether the program takes an array of this shape."""
+def refusal_of(name, kind, shape):
+    """What the program says of an input of this name, type and shape; nothing where it takes one."""
     with Room() as room:
-        program = f"input a {kind}[{shape[0]},{shape[1]}]; output y = a;"
-        return not ask("check", room.file("fits.ven", program), "1048576").refusal.startswith("program bad shape")
+        program = f"input {name} {kind}[{shape[0]},{shape[1]}]; output {'z' if name == 'y' else 'y'} = {name};"
+        return ask("check", room.file("input.ven", program), "1048576").refusal.removeprefix("program ")
 
 
 def loaded(path):
@@ -74,7 +75,7 @@ def loaded(path):
             pixels = numpy.load(path, allow_pickle=False)
         else:
             with Image.open(path) as picture:
-                pixels = numpy.array(plain(picture))
+                pixels = numpy.array(plain(ImageOps.exif_transpose(picture)))
     except OSError as error:
         stop(f"{path}: {error.strerror or 'no picture that can be read'}", 8)
     except ValueError:
@@ -116,6 +117,14 @@ def grey_of(pixels):
         return pixels
     weighted = (pixels.astype("int64") * numpy.array([77, 150, 29])).sum(axis=2) >> 8
     return weighted.astype(pixels.dtype)
+
+
+def may_save(path):
+    """Ends the tool where a picture of this name can't be saved, before there is one."""
+    if not path.lower().endswith(SUFFIXES):
+        stop(f"{path}: a JPEG changes the values; the result ends in {' '.join(SUFFIXES)}", 2)
+    if not os.path.isdir(os.path.dirname(path) or "."):
+        stop(f"{path}: there is no folder {os.path.dirname(path)}", 14)
 
 
 def saved(path, pixels, scale=False):

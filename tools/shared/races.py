@@ -1,6 +1,6 @@
 """A `machine hazard` stop in the words of the text: both works, their lines, the bytes they share, the missing wait."""
 from shared.program import ask
-from shared.works import shared_spans, spans_in_words, stopped_at, straight
+from shared.works import MOST_STEPS, shared_spans, spans_in_words, stopped_at, straight
 
 UNITS = {"lanes": "the lanes", "read": "the read channel", "write": "the write channel"}
 WAITS = {"lanes": "vwait", "read": "rwait", "write": "wwait"}
@@ -12,7 +12,8 @@ def explain(room, image, listing, words):
     steps = stopped_at(room, listing, image, words)
     if steps is None:
         pc = int(refusal[refusal.index("pc") + 1])
-        return listing.shown(pc, f"the machine stops before this work (instruction {pc}), which meets a work in flight")
+        return [*listing.shown(pc, f"the machine stops before this work (instruction {pc}), which meets a work in flight"),
+                f"it comes behind {MOST_STEPS} steps of the host, so which turn of a loop it is isn't looked for"]
     late = steps[-1]
     number = sum(1 for step in steps if step.unit)
     said = listing.shown(late.pc, f"the machine stops before this work, work {number} (instruction {late.pc}), "

@@ -15,7 +15,7 @@ abbrev pub names_of : Statement → List ℕ
 names_of s = in_value [] occurrences.names_in s
 
 abbrev pub mapped_of : Statement → List ℕ
-mapped_of s = in_value [] occurrences.mapped_in s
+mapped_of s = in_value [] occurrences.names_under_maps s
 
 -- one occurrence more, up to 2
 abbrev pub bumped : List ℕ → ℕ → List ℕ

@@ -120,7 +120,7 @@ write_total : (tag lanes : ℕ) (works : List DmaWork) → beats_of_all (map (λ
 write_total tag lanes [] = refl
 write_total tag lanes (work ∷ works) = omega (arith, write_total tag lanes works)
 
-vector_total : (lanes : ℕ) (works : List VecWork) → beats_of_all (map (λ work. Vector work) works) lanes ≡ count.beats_of_all works lanes
+vector_total : (lanes : ℕ) (works : List VecWork) → beats_of_all (map (λ work. Vector work) works) lanes ≡ count.vector_beats_of_all works lanes
 vector_total lanes [] = refl
 vector_total lanes (work ∷ works) = omega (arith, vector_total lanes works)
 

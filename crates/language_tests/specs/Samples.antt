@@ -1,4 +1,4 @@
--- Inner: programs with one input, which tests and measurements build.
+-- Inner: programs with one input, which tests build.
 use Rattle.std.specs.Prelude.{◌≡◌, ℕ, List, [], ◌∷◌}
 use Rattle.ven_base.specs.declared.elem.Elem.{Elem}
 use Rattle.ven_base.specs.Extent.{Extent}

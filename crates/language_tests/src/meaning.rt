@@ -138,5 +138,5 @@ fn output(alloc: Global) -> Option<Vec<i64>> {
 #[test]
 fn each_statement_has_its_array(rt: HostRuntime) {
     let values = output(rt.alloc());
-    assert!(rt; values.is_some_and(|values| values.as_slice() == [5, 7, -128]));
+    assert!(rt; values.is_some_and(|values| values.as_slice() == [5, 7, -128].as_slice()));
 }

@@ -47,12 +47,17 @@ fn loads_from_memory_fail_by_number(rt: HostRuntime) -> Result<(), Fail> {
 #[test]
 fn saves_to_memory_fail_by_number(rt: HostRuntime) -> Result<(), Fail> {
     let alloc = rt.alloc();
-    let mut files = MemFiles::new(alloc, vec![in alloc; 2]?);
+    let mut files = MemFiles::new(alloc, vec![in alloc; 3]?);
     files.add("a", b"abcdef".to_vec(alloc)?)?;
+    assert!(rt; loads(&mut files, alloc, "a", 9, b"abcdef"));
     assert!(rt; saves(&mut files, "b", b"xyz"));
     assert!(rt; fails_to_save(&mut files, "a"));
     assert!(rt; files.get("a").is_some_and(|bytes| bytes.is_empty()));
-    assert!(rt; files.get("b").is_some_and(|bytes| bytes == b"xyz"));
+    assert!(rt;
+        files
+            .get("b")
+            .is_some_and(|bytes| bytes == b"xyz".as_slice())
+    );
     assert!(rt; files.get("c").is_none());
     Ok(())
 }
@@ -64,7 +69,7 @@ fn a_sink_in_memory_fails_by_number(rt: HostRuntime) -> Result<(), Fail> {
     assert!(rt; puts(&mut sink, b"abc"));
     assert!(rt; matches!(sink.put(b"defgh"), Err(OutFault::Failed)));
     assert!(rt; puts(&mut sink, b"!"));
-    assert!(rt; sink.taken() == b"abcde!");
+    assert!(rt; sink.taken() == b"abcde!".as_slice());
     Ok(())
 }
 

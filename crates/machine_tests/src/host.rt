@@ -118,9 +118,24 @@ fn issues_wait_for_a_place(rt: HostRuntime) -> Result<(), Fail> {
     let vector = Instr::Vec(kind.ok_or("a mode of the operation")?);
     let read = Instr::Dma { write: false };
     let write = Instr::Dma { write: true };
-    let vectors = turns(&rt, vector, Waiting { vector: 4, ..IDLE }, Waiting { vector: 3, ..BUSY })?;
-    let reads = turns(&rt, read, Waiting { read: 8, ..IDLE }, Waiting { read: 7, ..BUSY })?;
-    let writes = turns(&rt, write, Waiting { write: 8, ..IDLE }, Waiting { write: 7, ..BUSY })?;
+    let vectors = turns(
+        &rt,
+        vector,
+        Waiting { vector: 4, ..IDLE },
+        Waiting { vector: 3, ..BUSY },
+    )?;
+    let reads = turns(
+        &rt,
+        read,
+        Waiting { read: 8, ..IDLE },
+        Waiting { read: 7, ..BUSY },
+    )?;
+    let writes = turns(
+        &rt,
+        write,
+        Waiting { write: 8, ..IDLE },
+        Waiting { write: 7, ..BUSY },
+    )?;
     assert!(rt; vectors && reads && writes);
     Ok(())
 }
@@ -130,10 +145,30 @@ fn waits_pass_where_few_enough_are_unfinished(rt: HostRuntime) -> Result<(), Fai
     let rwait = Instr::Rwait { a: 1 };
     let wwait = Instr::Wwait { a: 1 };
     let twait = Instr::Twait { a: 1 };
-    let reads = turns(&rt, rwait, Waiting { read: 7, ..IDLE }, Waiting { read: 6, ..BUSY })?;
-    let writes = turns(&rt, wwait, Waiting { write: 7, ..IDLE }, Waiting { write: 6, ..BUSY })?;
-    let vectors = turns(&rt, Instr::Vwait, Waiting { vector: 1, ..IDLE }, Waiting { vector: 0, ..BUSY })?;
-    let tags = turns(&rt, twait, Waiting { tagged: 1, ..IDLE }, Waiting { tagged: 0, ..BUSY })?;
+    let reads = turns(
+        &rt,
+        rwait,
+        Waiting { read: 7, ..IDLE },
+        Waiting { read: 6, ..BUSY },
+    )?;
+    let writes = turns(
+        &rt,
+        wwait,
+        Waiting { write: 7, ..IDLE },
+        Waiting { write: 6, ..BUSY },
+    )?;
+    let vectors = turns(
+        &rt,
+        Instr::Vwait,
+        Waiting { vector: 1, ..IDLE },
+        Waiting { vector: 0, ..BUSY },
+    )?;
+    let tags = turns(
+        &rt,
+        twait,
+        Waiting { tagged: 1, ..IDLE },
+        Waiting { tagged: 0, ..BUSY },
+    )?;
     assert!(rt; reads && writes && vectors && tags);
     Ok(())
 }

@@ -7,8 +7,16 @@
 #[cfg(test)]
 mod asm;
 #[cfg(test)]
+mod channels;
+#[cfg(test)]
 mod host;
 #[cfg(test)]
 mod isa;
+#[cfg(test)]
+mod lanes;
+#[cfg(test)]
+mod machine;
+#[cfg(test)]
+mod overlap;
 #[cfg(test)]
 mod stores;

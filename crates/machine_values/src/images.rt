@@ -1,6 +1,6 @@
 //! Images as bytes.
 use crate::words;
-use image_loader::{FILE_LIMIT, ImageFault, read_image, write_image};
+use image_loader::{FILE_LIMIT, Image, ImageFault, read_image, write_image};
 use std::alloc::Global;
 use venice_isa::Version;
 
@@ -45,20 +45,23 @@ pub fn image(alloc: Global, rest: &str) -> Option<String> {
     if bytes.len() > FILE_LIMIT as usize {
         return None;
     }
-    let image = match read_image(alloc, &bytes) {
-        Ok(image) => image,
-        Err(fault) => return shown(alloc, Some(fault)),
+    match read_image(alloc, &bytes) {
+        Ok(image) => parts_of(alloc, &image, &bytes),
+        Err(fault) => shown(alloc, Some(fault)),
+    }
+}
+
+fn parts_of(alloc: Global, image: &Image, bytes: &[u8]) -> Option<String> {
+    let again = write_image(alloc, image).ok()?;
+    let same = again.as_slice() == bytes;
+    let code = &image.code;
+    let version = match code.version {
+        Version::One => 1,
+        Version::Two => 2,
     };
-    let again = write_image(alloc, &image).ok()?;
-    let same = again.as_slice() == bytes.as_slice();
-    let (arrays, instrs) = (image.arrays.len(), image.code.len());
-    let version = if image.code.version == Version::Two {
-        2
-    } else {
-        1
-    };
-    let numbers = format!(in alloc; "{version} {} {}", image.spad, image.memory).ok()?;
-    format!(in alloc; "{numbers} {arrays} {instrs} {same}").ok()
+    let (arrays, instrs) = (image.arrays.len(), code.len());
+    let (spad, memory) = (image.spad, image.memory);
+    format!(in alloc; "{version} {spad} {memory} {arrays} {instrs} {same}").ok()
 }
 
 /// `byte I FROM TO`: the one fault of the smallest image with byte I from FROM up to TO in place of its own; none where

@@ -38,10 +38,17 @@ pub fn text(alloc: Global, rest: &str) -> Option<String> {
 /// a canonical text.
 pub fn line(alloc: Global, rest: &str) -> Option<String> {
     let text = format!(in alloc; "version 2\nspad 1\nmemory 0\n{rest}\nhalt\n").ok()?;
-    let image = image_of(alloc, text.as_bytes()).ok()?;
-    let again = disassemble(alloc, &image).ok()?;
-    let same = again.as_slice() == text.as_bytes();
-    let [b0, b1, b2, b3, b4, b5, b6, b7] = encode(image.code.instrs.first()?);
+    match image_of(alloc, text.as_bytes()) {
+        Ok(image) => first_of(alloc, &image, text.as_bytes()),
+        Err(_) => None,
+    }
+}
+
+fn first_of(alloc: Global, image: &Image, text: &[u8]) -> Option<String> {
+    let again = disassemble(alloc, image).ok()?;
+    let same = again.as_slice() == text;
+    let code = &image.code;
+    let [b0, b1, b2, b3, b4, b5, b6, b7] = encode(code.instrs.first()?);
     format!(in alloc; "{b0} {b1} {b2} {b3} {b4} {b5} {b6} {b7} {same}").ok()
 }
 

@@ -11,11 +11,12 @@ use Rattle.ven_base.specs.Job.{next_job, jobs_beaten}
 use Rattle.venice_isa.specs.declared.instr.Version.{Version}
 use Rattle.venice_isa.specs.declared.issue.Issue.{Issue}
 use Rattle.venice_isa.specs.declared.issue.Issue.TheVariants.{Vector, Read, Write, RWait, WWait, VWait, TWait}
+use Rattle.venice_isa.specs.declared.host.Deed.TheVariants.{Passes}
 use Rattle.venice_isa.specs.Beat.{beats_of}
 use Rattle.venice_isa.specs.Flight.{waits_for, waits_for_tag_of, ends, may_be_in_flight}
 use Rattle.venice_isa.specs.Units.{Unit, Lanes, ReadChannel, WriteChannel, places, is_of, is_work, overtakes, share_a_unit}
 use Rattle.venice_machine.specs.State.{Jobs, issued_course, is_job_of, queue, unfinished_count, place_of, has_tag, tagged_count}
-use Rattle.venice_machine.specs.Step.{may_pass}
+use Rattle.venice_machine.specs.Step.{may_step}
 use Rattle.venice_machine.proofs.Queues.{other_queue_stays}
 use Rattle.venice_machine.proofs.Runs.{both_true}
 use Rattle.overlap_law.specs.Flights.{count_of}
@@ -60,13 +61,13 @@ flies_on version unit work n (issue ∷ issues) next flies goes =
     (flies_on version unit work (cond (is_of unit issue) (n + 1) n) issues next both.1
     (subst (λ m. ends version unit work m next ≡ false) (shifted (is_of unit issue) n issue (filter (is_of unit) issues)) goes))
 
-waits_for_none : (unit : Unit) (next : Issue) (jobs : Jobs) (n : ℕ) → n < unfinished_count unit jobs → may_pass next jobs ≡ true → waits_for unit next n ≡ false
+waits_for_none : (unit : Unit) (next : Issue) (jobs : Jobs) (n : ℕ) → n < unfinished_count unit jobs → may_step (Passes next) jobs ≡ true → waits_for unit next n ≡ false
 waits_for_none Lanes VWait jobs n some may = absurd (omega (arith, eqb-true (unfinished_count Lanes jobs) 0 may))
 waits_for_none ReadChannel (RWait count) jobs n some may = lt-leb count n (omega (arith, leb-true (unfinished_count ReadChannel jobs) count may))
 waits_for_none WriteChannel (WWait count) jobs n some may = lt-leb count n (omega (arith, leb-true (unfinished_count WriteChannel jobs) count may))
 waits_for_none unit next jobs n some may = refl
 
-has_place : (unit : Unit) (next : Issue) (jobs : Jobs) (n : ℕ) → n < unfinished_count unit jobs → may_pass next jobs ≡ true → (is_of unit next && nat_le (places unit) (n + 1)) ≡ false
+has_place : (unit : Unit) (next : Issue) (jobs : Jobs) (n : ℕ) → n < unfinished_count unit jobs → may_step (Passes next) jobs ≡ true → (is_of unit next && nat_le (places unit) (n + 1)) ≡ false
 has_place Lanes (Vector w) jobs n some may = lt-leb 4 (n + 1) (omega (arith, ltb-true (unfinished_count Lanes jobs) 4 may))
 has_place ReadChannel (Read w) jobs n some may = lt-leb 8 (n + 1) (omega (arith, ltb-true (unfinished_count ReadChannel jobs) 8 may))
 has_place WriteChannel (Write w) jobs n some may = lt-leb 8 (n + 1) (omega (arith, ltb-true (unfinished_count WriteChannel jobs) 8 may))
@@ -94,13 +95,13 @@ tag_waited_for (Read work) (TWait tag) = inr (tag, refl, refl)
 tag_waited_for (Write work) (TWait tag) = inr (tag, refl, refl)
 tag_waited_for work next = inl refl
 
-pub waits_for_no_tag : (next : Issue) (jobs : Jobs) → may_pass next jobs ≡ true → WaitsForNone next jobs
+pub waits_for_no_tag : (next : Issue) (jobs : Jobs) → may_step (Passes next) jobs ≡ true → WaitsForNone next jobs
 waits_for_no_tag next jobs may = λ k d within.
     elim (tag_waited_for (get_or jobs k d).work.issue next) [
       | inl none ↦ none
       | inr waited ↦
           let tag = waited.0 in
-          let passes = subst (λ issue. may_pass issue jobs ≡ true) waited.1 may in
+          let passes = subst (λ issue. may_step (Passes issue) jobs ≡ true) waited.1 may in
           let none : length (filter (λ job. has_tag tag job.work.issue) jobs) ≡ 0 = length-filter (λ job. has_tag tag job.work.issue) jobs ∙ eqb-true (tagged_count tag jobs) 0 passes in
           waited.2 ∙ none_of tag jobs none k d within
     ]
@@ -110,7 +111,7 @@ neither_holds e f = cc
 
 -- what passes while a job of the unit is unfinished doesn't end it
 passing_ends_none : (version : Version) (unit : Unit) (work : Issue) (n : ℕ) (next : Issue) (jobs : Jobs) → 0 < unfinished_count unit jobs → (overtakes version unit ≡ false → n < unfinished_count unit jobs)
-    → waits_for_tag_of work next ≡ false → may_pass next jobs ≡ true → ends version unit work n next ≡ false
+    → waits_for_tag_of work next ≡ false → may_step (Passes next) jobs ≡ true → ends version unit work n next ≡ false
 passing_ends_none version unit work n next jobs some fewer tag may = go (overtakes version unit) refl
   where
     go : (over : Bool) → overtakes version unit ≡ over → cond over (waits_for unit next 0 || waits_for_tag_of work next) (waits_for unit next n || (is_of unit next && nat_le (places unit) (n + 1))) ≡ false
@@ -143,7 +144,7 @@ as_many unit job jobs = go (is_job_of unit job)
 
 -- the jobs still fly when one more issue or wait passes, and brings new jobs or none; `all` are the jobs at that
 -- moment, of which these are the last
-module _ (version : Version) (issues : List Issue) (next : Issue) (all new : Jobs) (may : may_pass next all ≡ true)
+module _ (version : Version) (issues : List Issue) (next : Issue) (all new : Jobs) (may : may_step (Passes next) all ≡ true)
     (added : (unit : Unit) (some : Jobs) → unfinished_count unit some + count_of unit (next ∷ []) ≤ unfinished_count unit (some ++ new)) where
   flying_on : (job : IssuedJob) (jobs : Jobs) → IsFlying version issues job.work.issue jobs → ((unit : Unit) → unfinished_count unit (job ∷ jobs) ≤ unfinished_count unit all) → waits_for_tag_of job.work.issue next ≡ false
       → IsFlying version (issues ++ next ∷ []) job.work.issue (jobs ++ new)
@@ -272,11 +273,11 @@ one_added : (lane_count number : ℕ) (issue : Issue) (unit : Unit) (some : Jobs
 one_added lane_count number issue unit some = omega (arith, unfinished_pushed unit some (begun lane_count number issue))
 
 -- the jobs that fly when a wait has passed, and when a work is issued
-pub fly_past_wait : (version : Version) (issues : List Issue) (wait : Issue) (jobs : Jobs) → is_work wait ≡ false → may_pass wait jobs ≡ true → AreFlying version issues jobs → AreFlying version (issues ++ wait ∷ []) jobs
+pub fly_past_wait : (version : Version) (issues : List Issue) (wait : Issue) (jobs : Jobs) → is_work wait ≡ false → may_step (Passes wait) jobs ≡ true → AreFlying version issues jobs → AreFlying version (issues ++ wait ∷ []) jobs
 fly_past_wait version issues wait jobs is may flying =
     subst (AreFlying version (issues ++ wait ∷ [])) (append-nil jobs) (all_fly_on version issues wait jobs [] may (none_added wait is) flying tt)
 
-pub fly_with_one : (version : Version) (lane_count number : ℕ) (issues : List Issue) (issue : Issue) (jobs : Jobs) → is_work issue ≡ true → may_pass issue jobs ≡ true → AreFlying version issues jobs
+pub fly_with_one : (version : Version) (lane_count number : ℕ) (issues : List Issue) (issue : Issue) (jobs : Jobs) → is_work issue ≡ true → may_step (Passes issue) jobs ≡ true → AreFlying version issues jobs
     → AreFlying version (issues ++ issue ∷ []) (jobs ++ begun lane_count number issue ∷ [])
 fly_with_one version lane_count number issues issue jobs is may flying =
     all_fly_on version issues issue jobs (begun lane_count number issue ∷ []) may (one_added lane_count number issue) flying (begins version issues issue is, tt)

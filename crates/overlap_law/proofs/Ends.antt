@@ -17,7 +17,7 @@ use Rattle.venice_isa.specs.Units.{Unit, Lanes, ReadChannel, WriteChannel, is_of
 use Rattle.venice_isa.proofs.HostSteps.{issue_list_found, no_issue_list}
 use Rattle.venice_machine.specs.declared.stop.End.TheVariants.{Halted}
 use Rattle.venice_machine.specs.State.{Setup, State, Jobs, issued_course, queue, unfinished_count}
-use Rattle.venice_machine.specs.Step.{Mover, TheHost, TheUnit, may_pass, may_go_on, can_step}
+use Rattle.venice_machine.specs.Step.{Mover, TheHost, TheUnit, may_step, can_step}
 use Rattle.overlap_law.specs.Kept.{IsReadyOn, GoesOnFor}
 use Rattle.overlap_law.specs.Ends.{MakesHalt, IsAtHalt}
 use Rattle.overlap_law.proofs.Finishing.{AreReady}
@@ -110,7 +110,7 @@ module _ (setup : Setup) (most : ℕ) (some_lanes : 0 < setup.lane_count) (first
 
 -- ---- some unit can step
 
-nothing_waits : (issue : Issue) → may_pass issue [] ≡ true
+nothing_waits : (issue : Issue) → may_step (Passes issue) [] ≡ true
 nothing_waits (Vector work) = refl
 nothing_waits (Read work) = refl
 nothing_waits (Write work) = refl
@@ -119,7 +119,7 @@ nothing_waits (WWait count) = le-leb 0 count (omega arith)
 nothing_waits VWait = refl
 nothing_waits (TWait tag) = refl
 
-host_goes_on : (what : Deed) → may_go_on what [] ≡ true
+host_goes_on : (what : Deed) → may_step what [] ≡ true
 host_goes_on Halts = refl
 host_goes_on Moves = refl
 host_goes_on (Passes issue) = nothing_waits issue
@@ -131,7 +131,7 @@ unit_of lane_count (Write work) some = (WriteChannel, refl)
 unit_of lane_count issue some = absurd (omega arith)
 
 module _ (setup : Setup) where
-  goes_on : (size : Size) (what : Deed) (jobs : Jobs) → AreReady setup.lane_count jobs size → (may_go_on what jobs ≡ true) ⊎ ((unit : Unit) × (nat_lt 0 (unfinished_count unit jobs) ≡ true))
+  goes_on : (size : Size) (what : Deed) (jobs : Jobs) → AreReady setup.lane_count jobs size → (may_step what jobs ≡ true) ⊎ ((unit : Unit) × (nat_lt 0 (unfinished_count unit jobs) ≡ true))
   goes_on size what [] ready = inl (host_goes_on what)
   goes_on size what (job ∷ jobs) ready =
       let first : IsReadyOn setup.lane_count size job = All-head (IsReadyOn setup.lane_count size) job jobs ready in

@@ -43,7 +43,7 @@ module _ (setup : Setup) (most : ℕ) where
         moves = λ is. inr (omega arith);
         waits = λ issue passing wait. inr (omega arith);
         bad_count = λ issue passing work wrong. inl (BadCount state.host.place, refl);
-        out_of_range = λ issue passing work wrong. inl (OutOfRange state.host.place, refl);
+        out_of_range = λ issue passing work counts wrong. inl (OutOfRange state.host.place, refl);
         meets_hazard = λ issue passing meets. inl (Hazard state.host.place state.cycles, refl);
         issues = λ issue passing good. inr (omega arith);
         beats = λ unit k may some. inr (omega arith);
@@ -126,7 +126,7 @@ module _ (setup : Setup) (most : ℕ) where
         moves = λ is. refl;
         waits = λ issue passing wait. refl;
         bad_count = λ issue passing work wrong. refl;
-        out_of_range = λ issue passing work wrong. refl;
+        out_of_range = λ issue passing work counts wrong. refl;
         meets_hazard = λ issue passing meets. refl;
         issues = λ issue passing good. refl;
         beats = λ unit k may some. refl;
@@ -166,7 +166,7 @@ module _ (setup : Setup) (most : ℕ) where
         moves = λ is. counted_within (with_host_on setup state);
         waits = λ issue passing wait. counted_within (with_host_on setup state);
         bad_count = λ issue passing work wrong e. cc;
-        out_of_range = λ issue passing work wrong e. cc;
+        out_of_range = λ issue passing work counts wrong e. cc;
         meets_hazard = λ issue passing meets e. cc;
         issues = λ issue passing good. counted_within (with_work setup issue state);
         beats = λ unit k may some. counted_within (after_beat setup unit k state);

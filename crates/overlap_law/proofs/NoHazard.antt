@@ -135,7 +135,7 @@ module _ (setup : Setup) (most : ℕ) where
             meets_none = budget_is_none _ _;
           };
           bad_count = λ issue passing work wrong. record { passed = clear.passed; host_is = clear.host_is; goes_on = clear.goes_on; flying = clear.flying; meets_none = λ pc cycle e. cc };
-          out_of_range = λ issue passing work wrong. record { passed = clear.passed; host_is = clear.host_is; goes_on = clear.goes_on; flying = clear.flying; meets_none = λ pc cycle e. cc };
+          out_of_range = λ issue passing work counts wrong. record { passed = clear.passed; host_is = clear.host_is; goes_on = clear.goes_on; flying = clear.flying; meets_none = λ pc cycle e. cc };
           meets_hazard = λ issue passing meets.
               let whole = whole_list state clear issue passing.next in
               absurd (no_race issues whole.0 issue state.jobs (subst (IsDisciplined setup.code.version) whole.1 disciplined) clear.flying meets);

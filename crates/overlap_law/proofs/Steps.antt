@@ -287,7 +287,7 @@ module _ (setup : Setup) (most : ℕ) (some_lanes : 0 < setup.lane_count) (first
           at_halt = λ e. absurd (isnt_halted _ _ e);
         };
         bad_count = λ issue passing work wrong. stop_sound (BadCount state.host.place) state going sound;
-        out_of_range = λ issue passing work wrong. stop_sound (OutOfRange state.host.place) state going sound;
+        out_of_range = λ issue passing work counts wrong. stop_sound (OutOfRange state.host.place) state going sound;
         meets_hazard = λ issue passing meets. stop_sound (Hazard state.host.place state.cycles) state going sound;
         issues = λ issue passing good. record {
           passed = suc passed;

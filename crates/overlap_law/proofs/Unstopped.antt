@@ -82,7 +82,7 @@ module _ (setup : Setup) (most : ℕ) (some_lanes : 0 < setup.lane_count) (first
           no_stop = counted_fine (with_host_on setup state) (sounds.waits issue passing wait);
         };
         bad_count = λ issue passing work wrong. let counts : has_counts issue ≡ true = (is_good state fine issue passing.next).counts in absurd cc;
-        out_of_range = λ issue passing work wrong.
+        out_of_range = λ issue passing work counts wrong.
             let inside : is_in_range (store_size first) issue ≡ true = (in_range_decided (store_size first) issue).1 (is_good state fine issue passing.next).in_range in
             let here : is_in_range (store_size state.store) issue ≡ true = subst (λ size. is_in_range size issue ≡ true) (sym fine.size) inside in
             absurd cc;

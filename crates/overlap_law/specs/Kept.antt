@@ -1,5 +1,5 @@
 -- What every moment of a run keeps.
-use Rattle.std.specs.Prelude.{◌≡◌, ◌≢◌, ℕ, ◌+◌, ◌<◌, false, List, [], ◌∷◌, length, All, Some}
+use Rattle.std.specs.Prelude.{◌≡◌, ◌≢◌, ℕ, ◌<◌, false, List, [], length, All, Some}
 use Rattle.std.specs.List.{AllPairs, filter}
 use Rattle.ven_base.specs.Store.{Place, Store, Size, store_size}
 use Rattle.ven_base.specs.Job.{Job, IsReady, all_finished}

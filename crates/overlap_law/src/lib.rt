@@ -20,6 +20,3 @@ pub mod laws;
 mod race;
 
 pub use race::{Race, disciplined};
-
-#[cfg(test)]
-mod tests;

@@ -8,7 +8,7 @@ use crate::flight::{ends, is_work, keep_their_order, share_a_unit};
 use venice_isa::{Issue, Version, conflict};
 
 /// Two works of a list that race, by their places in it, which count from 0, waits among them.
-#[derive(Clone, Copy, Debug, PartialEq, Eq)]
+#[derive(Clone, Copy)]
 pub struct Race {
     pub first: u32,
     pub second: u32,

@@ -2,6 +2,7 @@
 
 ghost use Rattle.std.specs.Prelude.{◌≡◌, ◌++◌, [], ◌∷◌, map, IfOk, OnOk, codes, decimal, All};
 ghost use Rattle.venice_isa.specs.Instr.{HasRanges};
+ghost use Rattle.venice_isa.specs.Encoding.{is_cast};
 ghost use Rattle.venice_asm.specs.Canonical.{canonical, head_text, statements_text, operand_text, statement_text, mode_of, vector_operands, statement_of, array_statement, line_of};
 ghost use Rattle.venice_asm.specs.Faults.{DenotesImage};
 ghost use Rattle.venice_asm.specs.Writing.{HasWord};
@@ -107,22 +108,29 @@ fn mode_of(kind: VecKind) -> Operand
     }
 }
 
+/// Whether the operation's operand has a type of its own.
+fn is_cast(op: VecOp) -> bool
+    ensures { result ≡ is_cast op }
+{
+    matches!(op, VecOp::Cast)
+}
+
 fn push_vector(text: &mut Vec<u8>, kind: VecKind) -> Result<(), AllocError>
     ensures { OnOk result (text.new.items
         ≡ text.old.items ++ statement_text (line_of heads.Vec (vector_operands kind))) }
 {
-    text.extend_from_slice(Head::Vec.word())?;
-    push_operand(text, &Operand::Operation(kind.op))?;
-    push_operand(text, &Operand::Elem(kind.elem))?;
-    if kind.op == VecOp::Cast {
-        push_operand(text, &Operand::Elem(kind.from))?;
+    let (op, elem, from) = (
+        Operand::Operation(kind.op),
+        Operand::Elem(kind.elem),
+        Operand::Elem(kind.from),
+    );
+    let mode = mode_of(kind);
+    match (is_cast(kind.op), kind.acc) {
+        (true, true) => push_line(text, Head::Vec, &[op, elem, from, mode, Operand::Sum]),
+        (true, false) => push_line(text, Head::Vec, &[op, elem, from, mode]),
+        (false, true) => push_line(text, Head::Vec, &[op, elem, mode, Operand::Sum]),
+        (false, false) => push_line(text, Head::Vec, &[op, elem, mode]),
     }
-    push_operand(text, &mode_of(kind))?;
-    if kind.acc {
-        push_operand(text, &Operand::Sum)?;
-    }
-    text.push(b'\n')?;
-    Ok(())
 }
 
 /// The line of an instruction.

@@ -1,5 +1,5 @@
 -- Cycles in which the host alone can step.
-use Rattle.std.proofs.Common.{◌≡◌, ◌∙◌, ℕ, ◌+◌, ◌<◌, ◌&&◌, ◌==◌, arith, sym, refl, ap, subst, List, [], ◌∷◌, length, Option, None, Bool, true, false, cond, nat_lt, is_none}
+use Rattle.std.proofs.Common.{◌≡◌, ◌∙◌, ℕ, ◌+◌, ◌<◌, ◌&&◌, ◌==◌, arith, sym, refl, ap, subst, [], ◌∷◌, Option, None, true, false, cond, nat_lt, is_none}
 use Rattle.venice_isa.specs.declared.host.Deed.{Deed}
 use Rattle.venice_isa.specs.declared.host.Deed.TheVariants.{Halts, Moves, Passes}
 use Rattle.venice_isa.specs.declared.host.HostState.{HostState}
@@ -8,7 +8,7 @@ use Rattle.venice_isa.specs.HostState.{host_of}
 use Rattle.venice_isa.specs.Units.{Unit, Lanes, ReadChannel, WriteChannel}
 use Rattle.host_core.specs.declared.waiting.Waiting.{Waiting}
 use Rattle.host_core.specs.declared.step.Step.TheVariants.{Moved}
-use Rattle.host_core.specs.Pass.{is_idle, may_go_on}
+use Rattle.host_core.specs.Pass.{is_idle, lets_go_on}
 use Rattle.host_core.specs.Step.{moves, step_of, host_after, wanted_by}
 use Rattle.venice_machine.specs.declared.stop.End.{End}
 use Rattle.venice_machine.specs.State.{Setup, State, unfinished_count}
@@ -64,7 +64,7 @@ module _ (machine : MachineContents) (numbered : AllNumbered machine.queues) (mo
     is_moved = ap (step_of waiting) (moves_is what moving)
 
     moved_on : host_of host ≡ host_after waiting machine.setup.code.instrs (host_of machine.host)
-    moved_on = on ∙ sym (ap (λ d. cond (may_go_on waiting d) (next machine.setup.code.instrs (host_of machine.host)) (host_of machine.host)) (moves_is what moving))
+    moved_on = on ∙ sym (ap (λ d. cond (lets_go_on waiting d) (next machine.setup.code.instrs (host_of machine.host)) (host_of machine.host)) (moves_is what moving))
 
     turns_shown : (state : State) → Shows counted_machine state → Shows moved (after_turns machine.setup most all_units in_order state)
     turns_shown state shows =

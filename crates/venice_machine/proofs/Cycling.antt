@@ -12,7 +12,7 @@ use Rattle.venice_machine.specs.declared.stop.Stop.TheVariants.{Hazard, OutOfRan
 use Rattle.venice_machine.specs.declared.stop.End.{End}
 use Rattle.venice_machine.specs.declared.stop.End.TheVariants.{Stopped}
 use Rattle.venice_machine.specs.State.{Setup, State, Jobs, unfinished_count}
-use Rattle.venice_machine.specs.Step.{Mover, TheHost, TheUnit, may_go_on, can_step, after_step, stopped_by}
+use Rattle.venice_machine.specs.Step.{Mover, TheHost, TheUnit, may_step, can_step, after_step, stopped_by}
 use Rattle.venice_machine.specs.Run.{is_set, bit_of, is_second, all_units, in_order, after_turn, after_turns, after_cycle, after_cycles}
 use Rattle.venice_machine.specs.Units.{bits_of_turns, units_of, cycle_answer}
 use Rattle.venice_machine.specs.declared.stop.Cycle.{Cycle}
@@ -69,7 +69,7 @@ module _ (setup : Setup) (most : ℕ) where
         moves = λ is. inr (omega arith);
         waits = λ issue passing isnt. inr (omega arith);
         bad_count = λ issue passing is none. inl (λ e. some_end (Stopped (BadCount state.host.place)) e);
-        out_of_range = λ issue passing is outside. inl (λ e. some_end (Stopped (OutOfRange state.host.place)) e);
+        out_of_range = λ issue passing is counts outside. inl (λ e. some_end (Stopped (OutOfRange state.host.place)) e);
         meets_hazard = λ issue passing hazard. inl (λ e. some_end (Stopped (Hazard state.host.place state.cycles)) e);
         issues = λ issue passing good. inr (omega arith);
         beats = λ unit k may below. inr (omega arith);
@@ -117,7 +117,7 @@ module _ (setup : Setup) (most : ℕ) where
       none false b = refl
 
   -- where nothing is unfinished the host can step
-  host_steps : (what : Deed) → may_go_on what [] ≡ true
+  host_steps : (what : Deed) → may_step what [] ≡ true
   host_steps Halts = refl
   host_steps Moves = refl
   host_steps (Passes (Vector work)) = refl
@@ -157,7 +157,7 @@ module _ (setup : Setup) (most : ℕ) where
           → nat_lt 0 (unfinished_count WriteChannel state.jobs) ≡ false → ⊥
       stuck host lanes reads writes =
           let empty : length state.jobs ≡ 0 = omega (arith, length_of_units state.jobs are, none _ lanes, none _ reads, none _ writes) in
-          true≢false (sym (ap (may_go_on (deed setup.code.instrs state.host)) (no_jobs state.jobs empty) ∙ host_steps (deed setup.code.instrs state.host)) ∙ host)
+          true≢false (sym (ap (may_step (deed setup.code.instrs state.host)) (no_jobs state.jobs empty) ∙ host_steps (deed setup.code.instrs state.host)) ∙ host)
 
   -- a cycle in which all may step makes a step, or ends the run
   pub full_cycle_advances : (state : State) → AreWorks state.jobs → state.end ≡ None → Advanced state.steps (after_cycle setup most all_units state)

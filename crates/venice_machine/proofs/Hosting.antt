@@ -12,12 +12,12 @@ use Rattle.venice_isa.specs.Units.{is_work}
 use Rattle.host_core.specs.declared.waiting.Waiting.{Waiting}
 use Rattle.host_core.specs.declared.step.Step.{Step}
 use Rattle.host_core.specs.declared.step.Step.TheVariants.{Issued, Moved, Waits, Halted as StepHalted}
-use Rattle.host_core.specs.Pass.{may_go_on}
+use Rattle.host_core.specs.Pass.{lets_go_on}
 use Rattle.host_core.specs.Step.{step_of, step_made, host_after, wanted_by}
 use Rattle.venice_machine.specs.declared.stop.Stop.{Stop}
 use Rattle.venice_machine.specs.declared.stop.End.TheVariants.{Halted, Stopped}
 use Rattle.venice_machine.specs.State.{State}
-use Rattle.venice_machine.specs.Step.{TheHost, may_go_on as may_step, stop_before, with_step, with_host_on, with_work, at_halt, after_deed, after_attempt}
+use Rattle.venice_machine.specs.Step.{TheHost, may_step, stop_before, with_step, with_host_on, with_work, at_halt, after_deed, after_attempt}
 use Rattle.venice_machine.specs.Machine.{Queues, MachineContents, ShowsJobs, Shows}
 use Rattle.venice_machine.specs.Kept.{AllNumbered, HasPlaceFor, queues_with, waiting_in, counted, after_chance}
 use Rattle.venice_machine.proofs.Shown.{host_may, issue_shown}
@@ -27,13 +27,13 @@ use Rattle.venice_machine.proofs.Runs.{either}
 -- ---- what the step is told by its answer
 
 pub data IsStep (waiting : Waiting) (what : Deed) (step : Step) : Type 0 where
-  waits : may_go_on waiting what ≡ false → step ≡ Waits → IsStep waiting what step
-  halts : may_go_on waiting what ≡ true → what ≡ Halts → step ≡ StepHalted → IsStep waiting what step
-  moves : may_go_on waiting what ≡ true → what ≡ Moves → step ≡ Moved → IsStep waiting what step
-  passes_wait : may_go_on waiting what ≡ true → (issue : Issue) → what ≡ Passes issue → is_work issue ≡ false → step ≡ Moved → IsStep waiting what step
-  issues : may_go_on waiting what ≡ true → (issue : Issue) → what ≡ Passes issue → is_work issue ≡ true → step ≡ Issued issue → IsStep waiting what step
+  waits : lets_go_on waiting what ≡ false → step ≡ Waits → IsStep waiting what step
+  halts : lets_go_on waiting what ≡ true → what ≡ Halts → step ≡ StepHalted → IsStep waiting what step
+  moves : lets_go_on waiting what ≡ true → what ≡ Moves → step ≡ Moved → IsStep waiting what step
+  passes_wait : lets_go_on waiting what ≡ true → (issue : Issue) → what ≡ Passes issue → is_work issue ≡ false → step ≡ Moved → IsStep waiting what step
+  issues : lets_go_on waiting what ≡ true → (issue : Issue) → what ≡ Passes issue → is_work issue ≡ true → step ≡ Issued issue → IsStep waiting what step
 
-passed : (waiting : Waiting) (issue : Issue) → may_go_on waiting (Passes issue) ≡ true → IsStep waiting (Passes issue) (step_made (Passes issue))
+passed : (waiting : Waiting) (issue : Issue) → lets_go_on waiting (Passes issue) ≡ true → IsStep waiting (Passes issue) (step_made (Passes issue))
 passed waiting (Vector work) may = issues may (Vector work) refl refl refl
 passed waiting (Read work) may = issues may (Read work) refl refl refl
 passed waiting (Write work) may = issues may (Write work) refl refl refl
@@ -42,21 +42,21 @@ passed waiting (WWait most) may = passes_wait may (WWait most) refl refl refl
 passed waiting VWait may = passes_wait may VWait refl refl refl
 passed waiting (TWait tag) may = passes_wait may (TWait tag) refl refl refl
 
-made : (waiting : Waiting) (what : Deed) → may_go_on waiting what ≡ true → IsStep waiting what (step_made what)
+made : (waiting : Waiting) (what : Deed) → lets_go_on waiting what ≡ true → IsStep waiting what (step_made what)
 made waiting Halts may = halts may refl refl
 made waiting Moves may = moves may refl refl
 made waiting (Passes issue) may = passed waiting issue may
 
 pub told : (waiting : Waiting) (what : Deed) → IsStep waiting what (step_of waiting what)
-told waiting what = go (may_go_on waiting what) refl
+told waiting what = go (lets_go_on waiting what) refl
   where
-    go : (may : Bool) → may_go_on waiting what ≡ may → IsStep waiting what (cond may (step_made what) Waits)
+    go : (may : Bool) → lets_go_on waiting what ≡ may → IsStep waiting what (cond may (step_made what) Waits)
     go true may = made waiting what may
     go false may = waits may refl
 
 -- a host that may not go on waits
-pub waits_by : (waiting : Waiting) (what : Deed) → true ≡ not (may_go_on waiting what) → step_of waiting what ≡ Waits
-waits_by waiting what e = go (may_go_on waiting what) (sym e)
+pub waits_by : (waiting : Waiting) (what : Deed) → true ≡ not (lets_go_on waiting what) → step_of waiting what ≡ Waits
+waits_by waiting what e = go (lets_go_on waiting what) (sym e)
   where
     go : (may : Bool) → not may ≡ true → cond may (step_made what) Waits ≡ Waits
     go true e = cc
@@ -95,7 +95,7 @@ not_both false e f = cc
 pub has_place : (wanted : Option ℕ) (queues : Queues) (what : Deed) (issue : Issue) → step_of (waiting_in wanted queues) what ≡ Issued issue → HasPlaceFor issue queues
 has_place wanted queues what issue is = go (told (waiting_in wanted queues) what)
   where
-    places : (issue : Issue) → may_go_on (waiting_in wanted queues) (Passes issue) ≡ true → HasPlaceFor issue queues
+    places : (issue : Issue) → lets_go_on (waiting_in wanted queues) (Passes issue) ≡ true → HasPlaceFor issue queues
     places (Vector work) may = ltb-true _ _ may
     places (Read work) may = ltb-true _ _ may
     places (Write work) may = ltb-true _ _ may
@@ -111,7 +111,7 @@ has_place wanted queues what issue is = go (told (waiting_in wanted queues) what
     go (passes_wait may other d isnt e) = absurd (issued_moved issue (sym is ∙ e))
     go (issues may other d work e) =
         let same : other ≡ issue = ap (issue_in issue) (sym e ∙ is) in
-        subst (λ issue. HasPlaceFor issue queues) same (places other (sym (ap (may_go_on (waiting_in wanted queues)) d) ∙ may))
+        subst (λ issue. HasPlaceFor issue queues) same (places other (sym (ap (lets_go_on (waiting_in wanted queues)) d) ∙ may))
 
 -- ---- the machine's host
 
@@ -129,15 +129,15 @@ module _ (machine : MachineContents) (numbered : AllNumbered machine.queues) (mo
     same_deed : deed machine.setup.code.instrs state.host ≡ what
     same_deed = ap (deed machine.setup.code.instrs) shows.host
 
-    may_same : may_step (deed machine.setup.code.instrs state.host) state.jobs ≡ may_go_on waiting what
+    may_same : may_step (deed machine.setup.code.instrs state.host) state.jobs ≡ lets_go_on waiting what
     may_same = ap (λ d. may_step d state.jobs) same_deed ∙ sym (host_may machine.queues state.jobs shows.jobs numbered what)
 
-    after_is : may_go_on waiting what ≡ true → After state ≡ after_deed what machine.setup most state
+    after_is : lets_go_on waiting what ≡ true → After state ≡ after_deed what machine.setup most state
     after_is may =
         ap (λ b. cond b (after_deed (deed machine.setup.code.instrs state.host) machine.setup most state) state) (may_same ∙ may)
         ∙ ap (λ d. after_deed d machine.setup most state) same_deed
 
-    after_wait : may_go_on waiting what ≡ false → After state ≡ state
+    after_wait : lets_go_on waiting what ≡ false → After state ≡ state
     after_wait may = ap (λ b. cond b (after_deed (deed machine.setup.code.instrs state.host) machine.setup most state) state) (may_same ∙ may)
 
     -- waits
@@ -166,12 +166,12 @@ module _ (machine : MachineContents) (numbered : AllNumbered machine.queues) (mo
         go (issues may issue d work e) = absurd (issued_halted issue (sym e ∙ is))
 
     -- what concerns the host alone, and waits
-    host_on : may_go_on waiting what ≡ true → (host : HostState) → host_of host ≡ host_after waiting machine.setup.code.instrs (host_of machine.host) → next machine.setup.code.instrs state.host ≡ host_of host
+    host_on : lets_go_on waiting what ≡ true → (host : HostState) → host_of host ≡ host_after waiting machine.setup.code.instrs (host_of machine.host) → next machine.setup.code.instrs state.host ≡ host_of host
     host_on may host on =
         ap (next machine.setup.code.instrs) shows.host
         ∙ sym (on ∙ ap (λ b. cond b (next machine.setup.code.instrs (host_of machine.host)) (host_of machine.host)) may)
 
-    on_shown : may_go_on waiting what ≡ true → (host : HostState) → host_of host ≡ host_after waiting machine.setup.code.instrs (host_of machine.host)
+    on_shown : lets_go_on waiting what ≡ true → (host : HostState) → host_of host ≡ host_after waiting machine.setup.code.instrs (host_of machine.host)
         → (new : MachineContents) → new ≡ counted most (record machine { host = host }) → Shows new (with_step most (with_host_on machine.setup state))
     on_shown may host on new new_is =
         subst (λ new. Shows new (with_step most (with_host_on machine.setup state))) (sym new_is)
@@ -196,7 +196,7 @@ module _ (machine : MachineContents) (numbered : AllNumbered machine.queues) (mo
 
     -- issues
     pub record Issues (issue : Issue) : Type 0 where
-      pub may : may_go_on waiting what ≡ true
+      pub may : lets_go_on waiting what ≡ true
       pub passes : what ≡ Passes issue
       pub work : is_work issue ≡ true
 

@@ -45,12 +45,14 @@ module _ {Work : Type 0} (as_issue : Work → Issue) where
       ∙ sym (sum_by-cons (λ (job : Job Work Progress). cond (test (as_issue job.work)) 1 0) job jobs)
 
   -- the issue number at a place
-  pub number_in : (numbers : List ℕ) (jobs : List (Job Work Progress)) → length numbers ≡ length jobs
-      → option_map (λ (job : Job IssuedWork Progress). job.work.number) (slice_get (in_machine numbers jobs) 0) ≡ slice_get numbers 0
-  number_in [] [] same = refl
-  number_in [] (job ∷ jobs) same = absurd (omega (arith, same))
-  number_in (n ∷ numbers) [] same = absurd (omega (arith, same))
-  number_in (n ∷ numbers) (job ∷ jobs) same = refl
+  pub numbers_in : (k : ℕ) (numbers : List ℕ) (jobs : List (Job Work Progress)) → length numbers ≡ length jobs
+      → option_map (λ (job : Job IssuedWork Progress). job.work.number) (slice_get (in_machine numbers jobs) k) ≡ slice_get numbers k
+  numbers_in zero [] [] same = refl
+  numbers_in (suc k) [] [] same = refl
+  numbers_in k [] (job ∷ jobs) same = absurd (omega (arith, same))
+  numbers_in k (n ∷ numbers) [] same = absurd (omega (arith, same))
+  numbers_in zero (n ∷ numbers) (job ∷ jobs) same = refl
+  numbers_in (suc k) (n ∷ numbers) (job ∷ jobs) same = numbers_in k numbers jobs (omega (arith, same))
 
   -- one more
   pub pushed_in : (numbers : List ℕ) (jobs : List (Job Work Progress)) (n : ℕ) (job : Job Work Progress) → length numbers ≡ length jobs

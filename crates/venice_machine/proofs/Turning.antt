@@ -16,18 +16,18 @@ use Rattle.venice_machine.specs.declared.stop.End.TheVariants.{Stopped}
 use Rattle.venice_machine.specs.State.{Setup, State, Jobs, unfinished_count, number_at, unit_numbered}
 use Rattle.venice_machine.specs.Step.{TheUnit, is_hazard, stop_before, with_step, chosen_place, after_beat}
 use Rattle.venice_machine.specs.Machine.{Queues, MachineContents, ShowsJobs, Shows}
-use Rattle.venice_machine.specs.Kept.{AllNumbered, AllLieIn, place_chosen, beat_of, first_bit, second_bits, unit_bits, unit_course, works_after_beat, front_in, hazard_of, stop_of, counted, after_chance}
+use Rattle.venice_machine.specs.Kept.{AllNumbered, AllLieIn, place_chosen, beat_of, first_bit, second_bits, unit_bits, unit_course, works_after_beat, number_in, hazard_of, stop_of, counted, after_chance}
 use Rattle.venice_machine.specs.declared.beat.Beat.{Beat}
 use Rattle.venice_machine.specs.declared.beat.Beat.TheVariants.{Nothing, First, Second}
 use Rattle.venice_machine.specs.Inside.{IsOfImage, IsMachine}
-use Rattle.venice_machine.proofs.Shown.{lanes_lie, reads_lie, writes_lie, lanes_numbered, reads_numbered, writes_numbered, lanes_count, reads_count, writes_count, hazard_among, front_shown, lanes_beaten, lanes_store, reads_beaten, reads_store, writes_beaten, writes_store}
+use Rattle.venice_machine.proofs.Shown.{lanes_lie, reads_lie, writes_lie, lanes_numbered, reads_numbered, writes_numbered, lanes_count, reads_count, writes_count, hazard_among, number_shown, lanes_beaten, lanes_store, reads_beaten, reads_store, writes_beaten, writes_store}
 use Rattle.venice_machine.proofs.Hazards.{hazard_is}
 
 -- ---- what it shows
 
-pub front_answer : (machine : MachineContents) → AllNumbered machine.queues → (unit : ℕ) (answer : Option ℕ) → answer ≡ front_in unit machine.queues
-    → (state : State) → Shows machine state → answer ≡ number_at (unit_numbered unit) 0 state.jobs
-front_answer machine numbered unit answer is state shows = is ∙ sym (front_shown machine.queues state.jobs shows.jobs numbered unit)
+pub number_answer : (machine : MachineContents) → AllNumbered machine.queues → (unit k : ℕ) (answer : Option ℕ) → answer ≡ number_in unit k machine.queues
+    → (state : State) → Shows machine state → answer ≡ number_at (unit_numbered unit) k state.jobs
+number_answer machine numbered unit k answer is state shows = is ∙ sym (number_shown machine.queues state.jobs shows.jobs numbered unit k)
 
 -- ---- stops
 

@@ -117,12 +117,12 @@ waiting_in wanted queues = record {
   tagged = tagged_in wanted queues;
 }
 
--- the issue number of a unit's first work
-abbrev pub front_in : (unit : ℕ) → Queues → Option ℕ
-front_in unit queues =
-    if unit == 1 then slice_get queues.lanes.numbers 0
-    else if unit == 2 then slice_get queues.reads.numbers 0
-    else slice_get queues.writes.numbers 0
+-- the issue number of the work at place k of a unit's queue
+abbrev pub number_in : (unit k : ℕ) → Queues → Option ℕ
+number_in unit k queues =
+    if unit == 1 then slice_get queues.lanes.numbers k
+    else if unit == 2 then slice_get queues.reads.numbers k
+    else slice_get queues.writes.numbers k
 
 -- whether the issue conflicts with a work of a queue
 abbrev pub conflicts_with : {Work : Type 0} → (Work → Issue) → Issue → UnitWorks Work → Bool

@@ -1,16 +1,18 @@
 -- Steps: who can make one, and the state after it.
-use Rattle.std.specs.Prelude.{ℕ, ◌+◌, ◌==◌, Bool, true, not, ◌&&◌, [], ◌∷◌, ◌++◌, length, nat_lt, nat_le, if◌then◌else◌, Option, Some, None}
+use Rattle.std.specs.Prelude.{ℕ, ◌+◌, ◌==◌, Bool, not, ◌&&◌, [], ◌∷◌, ◌++◌, length, nat_lt, nat_le, if◌then◌else◌, Option, Some, None}
 use Rattle.std.specs.List.{list_any}
 use Rattle.ven_base.specs.Store.{store_size}
 use Rattle.ven_base.specs.Job.{new_job, jobs_beaten, store_beaten}
 use Rattle.venice_isa.specs.declared.instr.Version.{Version}
 use Rattle.venice_isa.specs.declared.issue.Issue.{Issue}
-use Rattle.venice_isa.specs.declared.issue.Issue.TheVariants.{Vector, Read, Write, RWait, WWait, VWait, TWait}
 use Rattle.venice_isa.specs.declared.host.Deed.{Deed}
 use Rattle.venice_isa.specs.declared.host.Deed.TheVariants.{Halts, Moves, Passes}
 use Rattle.venice_isa.specs.Host.{deed, next}
 use Rattle.venice_isa.specs.Tests.{has_counts, is_in_range, are_in_conflict}
-use Rattle.venice_isa.specs.Units.{Unit, Lanes, ReadChannel, WriteChannel, places, is_work, overtakes, keep_their_order}
+use Rattle.venice_isa.specs.Units.{Unit, Lanes, ReadChannel, WriteChannel, is_work, overtakes, keep_their_order}
+use Rattle.host_core.specs.declared.waiting.Waiting.{Waiting}
+use Rattle.host_core.specs.Pass.{may_go_on}
+use Rattle.host_core.specs.Step.{wanted_by}
 use Rattle.venice_machine.specs.declared.stop.Stop.{Stop}
 use Rattle.venice_machine.specs.declared.stop.Stop.TheVariants.{Hazard, OutOfRange, BadCount, Budget}
 use Rattle.venice_machine.specs.declared.stop.End.TheVariants.{Halted, Stopped}
@@ -23,25 +25,26 @@ pub data Mover : Type 0 where
   TheHost : Mover
   TheUnit : Unit → Mover
 
--- an issue needs a place in its queue, and a wait its condition
-abbrev pub may_pass : Issue → Jobs → Bool
-may_pass (Vector work) jobs = nat_lt (unfinished_count Lanes jobs) (places Lanes)
-may_pass (Read work) jobs = nat_lt (unfinished_count ReadChannel jobs) (places ReadChannel)
-may_pass (Write work) jobs = nat_lt (unfinished_count WriteChannel jobs) (places WriteChannel)
-may_pass (RWait most) jobs = nat_le (unfinished_count ReadChannel jobs) most
-may_pass (WWait most) jobs = nat_le (unfinished_count WriteChannel jobs) most
-may_pass VWait jobs = unfinished_count Lanes jobs == 0
-may_pass (TWait tag) jobs = tagged_count tag jobs == 0
+-- how many works are unfinished: of each unit, and of the transfers with the tag that is waited for, if one is
+abbrev pub tagged_as : Option ℕ → Jobs → ℕ
+tagged_as None jobs = 0
+tagged_as (Some tag) jobs = tagged_count tag jobs
 
--- HALT needs that nothing is unfinished, and what concerns the host alone needs nothing
-abbrev pub may_go_on : Deed → Jobs → Bool
-may_go_on Halts jobs = length jobs == 0
-may_go_on Moves jobs = true
-may_go_on (Passes issue) jobs = may_pass issue jobs
+abbrev pub waiting_among : (wanted : Option ℕ) → Jobs → Waiting
+waiting_among wanted jobs = record {
+  vector = unfinished_count Lanes jobs;
+  read = unfinished_count ReadChannel jobs;
+  write = unfinished_count WriteChannel jobs;
+  tagged = tagged_as wanted jobs;
+}
+
+-- the host's next instruction, which is this to the rest of the machine, may be done among these works
+abbrev pub may_step : Deed → Jobs → Bool
+may_step deed jobs = may_go_on (length jobs == 0) (waiting_among (wanted_by deed) jobs) deed
 
 -- the host can step where it may go on, and a unit where its queue isn't empty
 abbrev pub can_step : Setup → Mover → State → Bool
-can_step setup TheHost state = may_go_on (deed setup.code.instrs state.host) state.jobs
+can_step setup TheHost state = may_step (deed setup.code.instrs state.host) state.jobs
 can_step setup (TheUnit unit) state = nat_lt 0 (unfinished_count unit state.jobs)
 
 -- ---- what stops the machine before an issue

@@ -1,7 +1,7 @@
 //! Which work a channel has gone on with.
 
 /// Which work of its queue a channel has done a beat of.
-#[derive(Clone, Copy, Debug, PartialEq, Eq)]
+#[derive(Clone, Copy)]
 pub(crate) enum Beat {
     Nothing,
     First,

@@ -14,7 +14,7 @@ pub const GRANT_LIMIT: u32 = 1_048_576;
 
 /// A grant list: for each cycle, from the first on, a byte that says who may step in it, at most 1,048,576 of them
 /// (docs/MACHINE.md, "Cycles"). It is seen as the list of the bytes.
-#[derive(Debug, Drop)]
+#[derive(Drop)]
 pub struct Grants {
     bytes: Vec<u8>,
 }
@@ -31,7 +31,7 @@ impl Model for Grants {
 }
 
 /// Why a text is no grant list (docs/FORMATS.md, "Grants"). `at` counts bytes from 0.
-#[derive(Clone, Copy, Debug, PartialEq, Eq, Error)]
+#[derive(Clone, Copy, Debug, Error)]
 pub enum GrantFault {
     /// The byte there is no digit and no blank, or isn't the second digit that is wanted; or the text ends there after
     /// one digit.
@@ -152,88 +152,5 @@ fn digit_value(byte: u8) -> Option<u8>
         b'a'..=b'f' => Some(byte - b'a' + 10),
         b'A'..=b'F' => Some(byte - b'A' + 10),
         _ => None,
-    }
-}
-
-#[cfg(test)]
-mod tests {
-    use super::*;
-    use std::alloc::AllocError;
-    use std::test::Fail;
-
-    /// The answer for a text that isn't large.
-    fn read(alloc: Global, text: &[u8]) -> Result<Grants, GrantFault> {
-        if text.len() > 10_000_000 {
-            return Err(GrantFault::Memory);
-        }
-        read_grants(alloc, text)
-    }
-
-    fn has_bytes(grants: &Grants, bytes: &[u8]) -> bool {
-        if grants.len() as usize != bytes.len() || grants.is_empty() != bytes.is_empty() {
-            return false;
-        }
-        (0..grants.len()).all(|k| bytes.get(k as usize) == Some(&grants.at(k)))
-    }
-
-    /// Whether a text is a list of these grants.
-    fn reads_as(alloc: Global, text: &[u8], bytes: &[u8]) -> bool {
-        match read(alloc, text) {
-            Ok(grants) => has_bytes(&grants, bytes),
-            Err(_) => false,
-        }
-    }
-
-    #[test]
-    fn texts_and_their_grants(rt: HostRuntime) {
-        let table: [(&[u8], &[u8]); 5] = [
-            (b"", &[]),
-            (b" \t\r\n", &[]),
-            (b"00", &[0]),
-            (b"0fF0\n 3f\r\n\tAb", &[0x0f, 0xf0, 0x3f, 0xab]),
-            (b"0102", &[1, 2]),
-        ];
-        for (text, bytes) in table {
-            assert!(rt; reads_as(rt.alloc(), text, bytes), "{text:?}");
-        }
-    }
-
-    #[test]
-    fn faults_of_texts(rt: HostRuntime) {
-        let table: [(&[u8], u32); 8] = [
-            (b"0g", 1),
-            (b"0", 1),
-            (b"g0", 0),
-            (b"00 0 0", 4),
-            (b"00\n0\n", 4),
-            (b"00 1", 4),
-            (b"00-", 2),
-            (b"\x0c00", 0),
-        ];
-        for (text, at) in table {
-            let fault = read(rt.alloc(), text).err();
-            assert_eq!(rt; fault, Some(GrantFault::Bad { at }), "{text:?}");
-        }
-    }
-
-    /// So many pairs of digits.
-    fn pairs(alloc: Global, count: u32) -> Result<Vec<u8>, AllocError> {
-        let mut text = Vec::new(alloc);
-        for _ in 0..count {
-            text.push(b'0')?;
-            text.push(b'f')?;
-        }
-        Ok(text)
-    }
-
-    #[test]
-    fn one_pair_too_many(rt: HostRuntime) -> Result<(), Fail> {
-        let mut text = pairs(rt.alloc(), GRANT_LIMIT)?;
-        let count = read(rt.alloc(), &text).ok().map(|grants| grants.len());
-        assert_eq!(rt; count, Some(GRANT_LIMIT));
-        text.extend_from_slice(b" \n0f")?;
-        let fault = read(rt.alloc(), &text).err();
-        assert_eq!(rt; fault, Some(GrantFault::TooLong));
-        Ok(())
     }
 }

@@ -25,6 +25,3 @@ mod works;
 pub use grants::{GRANT_LIMIT, GrantFault, Grants, read_grants};
 pub use machine::Machine;
 pub use stop::{Counts, Cycle, MakeFault, Stop};
-
-#[cfg(test)]
-mod tests;

@@ -8,7 +8,7 @@ ghost use Rattle.venice_isa.specs.Host.{deed};
 ghost use Rattle.venice_isa.specs.HostState.{host_of};
 ghost use Rattle.host_core.specs.Step.{wanted_by};
 ghost use Rattle.venice_isa.specs.Units.{is_work, overtakes, Lanes, ReadChannel, WriteChannel};
-ghost use Rattle.spad_store.specs.Sizes.{most_cells};
+ghost use Rattle.ven_base.specs.Limits.{cell_limit};
 ghost use Rattle.array_file.specs.Fitting.{Fits};
 ghost use Rattle.venice_machine.specs.State.{State, number_at, unit_numbered};
 ghost use Rattle.venice_machine.specs.Start.{setup_of, start_state, outputs_in};
@@ -91,7 +91,7 @@ impl Machine {
         requires some_lanes { 0 < lanes }
         requires few_lanes { lanes ≤ 4 }
         requires some_cells { 0 < spad }
-        requires few_cells { spad ≤ most_cells }
+        requires few_cells { spad ≤ cell_limit }
         ensures setup { IfOk result (λ machine. machine.setup ≡ setup_of image lanes) }
         ensures start { IfOk result (λ machine. Shows machine (start_state image inputs.now spad)) }
         ensures large { IfOk result (λ machine. image.spad ≤ spad) }
@@ -124,7 +124,7 @@ impl Machine {
         requires some_lanes { 0 < lanes }
         requires few_lanes { lanes ≤ 4 }
         requires some_cells { 0 < spad }
-        requires few_cells { spad ≤ most_cells }
+        requires few_cells { spad ≤ cell_limit }
         requires fits { Fits inputs.now image.arrays }
         ensures setup { IfOk result (λ machine. machine.setup ≡ setup_of image lanes) }
         ensures start { IfOk result (λ machine. Shows machine (start_state image inputs.now spad)) }
@@ -692,7 +692,24 @@ impl Machine {
         requires few { unit ≤ 3 }
         ensures { (state : State) → Shows self.now state → result ≡ number_at (unit_numbered unit) 0 state.jobs }
     {
-        self.works.front(unit)
+        self.works.number(unit, 0)
+    }
+
+    /// The issue number of the second work of a channel's queue; None exactly where it has fewer than two. Unit 2 is the
+    /// read channel and 3 the write channel. Condition: it is one of them.
+    pub fn second(&self, unit: u8) -> Option<u64>
+        requires some { 1 < unit }
+        requires few { unit ≤ 3 }
+        ensures { (state : State) → Shows self.now state → result ≡ number_at (unit_numbered unit) 1 state.jobs }
+    {
+        self.works.number(unit, 1)
+    }
+
+    /// How many works were issued since the machine was made, so that this is the issue number of the last one.
+    pub fn issued(&self) -> u64
+        ensures { (state : State) → Shows self.now state → result ≡ state.issues }
+    {
+        self.issues
     }
 
     /// The arrays of the image's outputs as memory holds them, in the order of its table.

@@ -5,7 +5,7 @@ use thiserror::Error;
 
 /// Why a run stops before `halt` (docs/MACHINE.md, "Stops"). `pc` is the host's place in the code then, and `cycle` the
 /// number of cycles counted so far.
-#[derive(Clone, Copy, Debug, PartialEq, Eq, Error)]
+#[derive(Clone, Copy, Debug, Error)]
 pub enum Stop {
     /// The work that is to be issued conflicts with one in flight that isn't sure to be done before it.
     #[error("hazard pc {pc} cycle {cycle}")]
@@ -22,7 +22,7 @@ pub enum Stop {
 }
 
 /// How a run has ended.
-#[derive(Clone, Copy, Debug, PartialEq, Eq)]
+#[derive(Clone, Copy)]
 pub enum End {
     /// At `halt`.
     Halted,
@@ -32,7 +32,7 @@ pub enum End {
 
 /// What a cycle was. `units` has the bits of those that stepped in it: 0 the host, 1 the lanes, 2 the read channel and
 /// 3 the write channel; and 4 or 5 where a channel went on with its second work.
-#[derive(Clone, Copy, Debug, PartialEq, Eq)]
+#[derive(Clone, Copy)]
 pub enum Cycle {
     /// The run goes on.
     Went { units: u8 },
@@ -43,7 +43,7 @@ pub enum Cycle {
 }
 
 /// How many steps and cycles were made since the machine was.
-#[derive(Clone, Copy, Debug, PartialEq, Eq)]
+#[derive(Clone, Copy)]
 pub struct Counts {
     pub steps: u64,
     pub cycles: u64,

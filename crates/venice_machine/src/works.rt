@@ -7,7 +7,7 @@ ghost use Rattle.host_core.specs.Pass.{is_idle};
 ghost use Rattle.venice_isa.specs.declared.issue.Issue.TheVariants.{Vector, Read, Write};
 ghost use Rattle.venice_isa.specs.Tests.{has_counts, are_in_conflict};
 ghost use Rattle.venice_isa.specs.Units.{ReadChannel, is_work, overtakes};
-ghost use Rattle.venice_machine.specs.Kept.{AllNumbered, AllLieIn, no_works, numbers_left, unit_course, works_after_beat, place_chosen, beat_of, queues_with, HasPlaceFor, waiting_in, front_in, conflicts_with, transfers_against_read, transfers_against_write, hazard_of};
+ghost use Rattle.venice_machine.specs.Kept.{AllNumbered, AllLieIn, no_works, numbers_left, unit_course, works_after_beat, place_chosen, beat_of, queues_with, HasPlaceFor, waiting_in, number_in, conflicts_with, transfers_against_read, transfers_against_write, hazard_of};
 
 use crate::beat::Beat;
 use crate::numbers::{Numbers, settle};
@@ -175,14 +175,14 @@ impl Works {
             && self.writes.unfinished() == 0
     }
 
-    /// The issue number of a unit's first work: of the lanes 1, of the read channel 2, of the write channel 3.
-    pub fn front(&self, unit: u8) -> Option<u64>
-        ensures { result ≡ front_in unit self.now.queues }
+    /// The issue number of work `k` of a unit's queue: of the lanes 1, of the read channel 2, of the write channel 3.
+    pub fn number(&self, unit: u8, k: usize) -> Option<u64>
+        ensures { result ≡ number_in unit k self.now.queues }
     {
         match unit {
-            1 => self.lane_numbers.first().copied(),
-            2 => self.read_numbers.first().copied(),
-            _ => self.write_numbers.first().copied(),
+            1 => self.lane_numbers.get(k).copied(),
+            2 => self.read_numbers.get(k).copied(),
+            _ => self.write_numbers.get(k).copied(),
         }
     }
 

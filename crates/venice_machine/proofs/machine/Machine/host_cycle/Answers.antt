@@ -1,4 +1,4 @@
-use Rattle.std.proofs.Common.{◌≡◌, ◌∙◌, ap, sym, subst}
+use Rattle.std.proofs.Common.{◌∙◌, ap, sym, subst}
 use Rattle.venice_machine.specs.State.{State}
 use Rattle.venice_machine.specs.Run.{all_units, after_cycle}
 use Rattle.venice_machine.specs.Machine.{MachineContents, Shows}

@@ -1,6 +1,6 @@
-//! Lists that race and lists that don't, in either version.
+//! Lists that race and lists that don't, in either version: `overlap_law`.
 
-use crate::{Race, disciplined};
+use overlap_law::disciplined;
 use std::alloc::{AllocError, Global};
 use std::test::Fail;
 use ven_base::Elem;
@@ -50,93 +50,108 @@ fn vector(dst: u32, a: u32) -> Result<Issue, Fail> {
     Ok(add_one(Elem::U8, 16, dst, a).ok_or("add allows bytes and a scalar")?)
 }
 
-fn race(first: u32, second: u32) -> Result<(), Race> {
-    Err(Race { first, second })
+/// The places of the first race of a list that isn't long.
+fn found(version: Version, list: &[Issue]) -> Option<(u32, u32)> {
+    if list.len() > 1_000_000 {
+        return None;
+    }
+    match disciplined(version, list) {
+        Ok(()) => None,
+        Err(race) => Some((race.first, race.second)),
+    }
+}
+
+/// The same in both versions, where they may differ.
+type Both = [Option<(u32, u32)>; 2];
+
+fn both(list: &[Issue]) -> Both {
+    [found(Version::One, list), found(Version::Two, list)]
+}
+
+const NONE: Both = [None, None];
+
+/// No race in version one.
+fn second_alone(first: u32, second: u32) -> Both {
+    [None, Some((first, second))]
+}
+
+/// No race in version two.
+fn first_alone(first: u32, second: u32) -> Both {
+    [Some((first, second)), None]
+}
+
+fn same(first: u32, second: u32) -> Both {
+    [Some((first, second)), Some((first, second))]
 }
 
 #[test]
-fn a_read_and_what_comes_behind_it(rt: HostRuntime) -> Result<(), Fail> {
+fn a_read_and_waits_for_it(rt: HostRuntime) -> Result<(), Fail> {
     use Issue::{RWait, TWait, VWait, WWait};
     let on_its_cells = vector(0, 0)?;
-    let add_words = add_one(Elem::U32, 3, 4, 0).ok_or("add allows words and a scalar")?;
     let a = read(0, 1);
     let b = read(16, 2);
-    let row = |list: &[Issue]| {
-        (
-            disciplined(Version::One, list),
-            disciplined(Version::Two, list),
-        )
-    };
     // A read and an addition on its cells, with nothing between; with waits for other units; with waits for its own.
-    assert_eq!(rt; row(&[a, on_its_cells]), (race(0, 1), race(0, 1)));
-    assert_eq!(rt;
-        row(&[a, VWait, WWait(0), on_its_cells]),
-        (race(0, 3), race(0, 3))
-    );
-    assert_eq!(rt; row(&[a, RWait(0), on_its_cells]), (Ok(()), Ok(())));
-    assert_eq!(rt; row(&[a, RWait(1), on_its_cells]), (race(0, 2), race(0, 2)));
+    assert_eq!(rt; both(&[a, on_its_cells]), same(0, 1));
+    assert_eq!(rt; both(&[a, VWait, WWait(0), on_its_cells]), same(0, 3));
+    assert_eq!(rt; both(&[a, RWait(0), on_its_cells]), NONE);
+    assert_eq!(rt; both(&[a, RWait(1), on_its_cells]), same(0, 2));
     // As many later reads as the wait lets stay unfinished end it in version one alone; one fewer, in neither.
-    assert_eq!(rt; row(&[a, b, RWait(1), on_its_cells]), (Ok(()), race(0, 3)));
-    assert_eq!(rt;
-        row(&[a, b, RWait(2), on_its_cells]),
-        (race(0, 3), race(0, 3))
-    );
+    assert_eq!(rt; both(&[a, b, RWait(1), on_its_cells]), second_alone(0, 3));
+    assert_eq!(rt; both(&[a, b, RWait(2), on_its_cells]), same(0, 3));
     // A wait for its tag ends it in version two alone; one for another tag in neither.
-    assert_eq!(rt; row(&[a, TWait(1), on_its_cells]), (race(0, 2), Ok(())));
-    assert_eq!(rt;
-        row(&[a, b, TWait(2), on_its_cells]),
-        (race(0, 3), race(0, 3))
-    );
-    // Two reads to the same cells, on one channel.
-    assert_eq!(rt; row(&[a, a, RWait(0)]), (Ok(()), race(0, 1)));
-    let long = Issue::Read(transfer(0, 0, 32, 0));
-    assert_eq!(rt; row(&[long, long]), (Ok(()), race(0, 1)));
-    assert_eq!(rt; row(&[a, TWait(1), a]), (Ok(()), Ok(())));
-    // A read, an addition and a write, each waited for.
-    let list = [a, RWait(0), add_words, VWait, write(0, 16, 0)];
-    assert_eq!(rt; row(&list), (Ok(()), Ok(())));
-    assert_eq!(rt; row(&[]), (Ok(()), Ok(())));
+    assert_eq!(rt; both(&[a, TWait(1), on_its_cells]), first_alone(0, 2));
+    assert_eq!(rt; both(&[a, b, TWait(2), on_its_cells]), same(0, 3));
     Ok(())
 }
 
 #[test]
-fn writes_and_vector_instructions(rt: HostRuntime) -> Result<(), Fail> {
+fn two_reads_and_works_that_are_waited_for(rt: HostRuntime) -> Result<(), Fail> {
+    use Issue::{RWait, TWait, VWait};
+    let add_words = add_one(Elem::U32, 3, 4, 0).ok_or("add allows words and a scalar")?;
+    let a = read(0, 1);
+    let long = Issue::Read(transfer(0, 0, 32, 0));
+    assert_eq!(rt; both(&[a, a, RWait(0)]), second_alone(0, 1));
+    assert_eq!(rt; both(&[long, long]), second_alone(0, 1));
+    assert_eq!(rt; both(&[a, TWait(1), a]), NONE);
+    // A read, an addition and a write, each waited for.
+    let list = [a, RWait(0), add_words, VWait, write(0, 16, 0)];
+    assert_eq!(rt; both(&list), NONE);
+    assert_eq!(rt; both(&[]), NONE);
+    Ok(())
+}
+
+#[test]
+fn vector_instructions_and_writes(rt: HostRuntime) -> Result<(), Fail> {
     use Issue::{RWait, TWait, VWait, WWait};
-    let row = |list: &[Issue]| {
-        (
-            disciplined(Version::One, list),
-            disciplined(Version::Two, list),
-        )
-    };
     let v = vector(0, 0)?;
     let w = write(0, 64, 3);
     // Vector instructions keep their order; a write of their cells waits for them.
-    assert_eq!(rt; row(&[v, v, VWait, w]), (Ok(()), Ok(())));
-    assert_eq!(rt; row(&[v, RWait(0), w]), (race(0, 2), race(0, 2)));
-    assert_eq!(rt; row(&[v, TWait(3), WWait(0), w]), (race(0, 3), race(0, 3)));
+    assert_eq!(rt; both(&[v, v, VWait, w]), NONE);
+    assert_eq!(rt; both(&[v, RWait(0), w]), same(0, 2));
+    assert_eq!(rt; both(&[v, TWait(3), WWait(0), w]), same(0, 3));
     // Two writes to the same bytes, and to others.
-    assert_eq!(rt; row(&[w, write(16, 64, 4)]), (Ok(()), race(0, 1)));
-    assert_eq!(rt; row(&[w, write(16, 80, 4)]), (Ok(()), Ok(())));
-    assert_eq!(rt; row(&[w, TWait(3), v]), (race(0, 2), Ok(())));
-    assert_eq!(rt; row(&[w, WWait(0), v]), (Ok(()), Ok(())));
-    // A read of the bytes that a write puts.
-    assert_eq!(rt;
-        row(&[write(32, 0, 5), read(0, 5)]),
-        (race(0, 1), race(0, 1))
-    );
-    assert_eq!(rt;
-        row(&[write(32, 0, 5), TWait(5), read(0, 5)]),
-        (race(0, 2), Ok(()))
-    );
-    // The first pair has the least second place, and then the least first: here `v` and `w` race with the read at 3.
-    assert_eq!(rt;
-        row(&[v, read(48, 0), w, read(0, 0), v]),
-        (race(0, 2), race(0, 2))
-    );
-    assert_eq!(rt;
-        row(&[v, write(80, 96, 3), read(80, 0), w]),
-        (race(1, 2), race(1, 2))
-    );
+    assert_eq!(rt; both(&[w, write(16, 64, 4)]), second_alone(0, 1));
+    assert_eq!(rt; both(&[w, write(16, 80, 4)]), NONE);
+    assert_eq!(rt; both(&[w, TWait(3), v]), first_alone(0, 2));
+    assert_eq!(rt; both(&[w, WWait(0), v]), NONE);
+    Ok(())
+}
+
+#[test]
+fn writes_and_reads_of_their_bytes(rt: HostRuntime) -> Result<(), Fail> {
+    let w = write(32, 0, 5);
+    assert_eq!(rt; both(&[w, read(0, 5)]), same(0, 1));
+    assert_eq!(rt; both(&[w, Issue::TWait(5), read(0, 5)]), first_alone(0, 2));
+    Ok(())
+}
+
+// The first pair has the least second place, and then the least first: here `v` and `w` race with the read at 3.
+#[test]
+fn the_first_of_several_races(rt: HostRuntime) -> Result<(), Fail> {
+    let v = vector(0, 0)?;
+    let w = write(0, 64, 3);
+    assert_eq!(rt; both(&[v, read(48, 0), w, read(0, 0), v]), same(0, 2));
+    assert_eq!(rt; both(&[v, write(80, 96, 3), read(80, 0), w]), same(1, 2));
     Ok(())
 }
 
@@ -157,47 +172,43 @@ fn list_of(
     Ok(list)
 }
 
+/// Whether the list with so many works between has these races.
+fn races(
+    alloc: Global,
+    first: Issue,
+    times: u32,
+    between: Issue,
+    last: Issue,
+    wanted: Both,
+) -> Result<bool, AllocError> {
+    let list = list_of(alloc, first, times, between, last)?;
+    Ok(both(&list) == wanted)
+}
+
 #[test]
-fn as_many_later_works_as_places(rt: HostRuntime) -> Result<(), Fail> {
+fn as_many_later_vector_instructions_as_places(rt: HostRuntime) -> Result<(), Fail> {
     let alloc = rt.alloc();
     let v = vector(0, 0)?;
     let elsewhere = vector(32, 48)?;
-    // How many works of the unit stand between, and the answers of the two versions.
-    for (times, one, two) in [
-        (3, race(0, 4), race(0, 4)),
-        (4, Ok(()), Ok(())),
-        (5, Ok(()), Ok(())),
+    let w = write(0, 64, 0);
+    assert!(rt; races(alloc, v, 3, elsewhere, w, same(0, 4))?);
+    assert!(rt; races(alloc, v, 4, elsewhere, w, NONE)?);
+    assert!(rt; races(alloc, v, 5, elsewhere, w, NONE)?);
+    Ok(())
+}
+
+#[test]
+fn as_many_later_transfers_as_places(rt: HostRuntime) -> Result<(), Fail> {
+    let alloc = rt.alloc();
+    let v = vector(0, 0)?;
+    let nothing = transfer(0, 64, 0, 0);
+    for (work, between) in [
+        (read(0, 0), Issue::Read(nothing)),
+        (write(0, 64, 0), Issue::Write(nothing)),
     ] {
-        let list = list_of(alloc, v, times, elsewhere, write(0, 64, 0))?;
-        assert!(rt; list.len() < 20);
-        assert_eq!(rt; disciplined(Version::One, &list), one);
-        assert_eq!(rt; disciplined(Version::Two, &list), two);
-    }
-    for (times, one, two) in [
-        (7, race(0, 8), race(0, 8)),
-        (8, Ok(()), race(0, 9)),
-        (9, Ok(()), race(0, 10)),
-    ] {
-        let list = list_of(
-            alloc,
-            read(0, 0),
-            times,
-            Issue::Read(transfer(0, 64, 0, 0)),
-            v,
-        )?;
-        assert!(rt; list.len() < 20);
-        assert_eq!(rt; disciplined(Version::One, &list), one);
-        assert_eq!(rt; disciplined(Version::Two, &list), two);
-        let list = list_of(
-            alloc,
-            write(0, 64, 0),
-            times,
-            Issue::Write(transfer(0, 64, 0, 0)),
-            v,
-        )?;
-        assert!(rt; list.len() < 20);
-        assert_eq!(rt; disciplined(Version::One, &list), one);
-        assert_eq!(rt; disciplined(Version::Two, &list), two);
+        assert!(rt; races(alloc, work, 7, between, v, same(0, 8))?);
+        assert!(rt; races(alloc, work, 8, between, v, second_alone(0, 9))?);
+        assert!(rt; races(alloc, work, 9, between, v, second_alone(0, 10))?);
     }
     Ok(())
 }
@@ -287,11 +298,11 @@ fn is_race(version: Version, list: &[Issue], first: usize, second: usize) -> boo
 }
 
 /// The first race, found by trying all pairs in their order.
-fn first_race(version: Version, list: &[Issue]) -> Option<(usize, usize)> {
-    for second in 0..list.len() {
+fn first_race(version: Version, list: &[Issue]) -> Option<(u32, u32)> {
+    for second in 0..20 {
         for first in 0..second {
             if is_race(version, list, first, second) {
-                return Some((first, second));
+                return Some((first as u32, second as u32));
             }
         }
     }
@@ -339,19 +350,10 @@ fn a_count_of_all_pairs_finds_the_same(rt: HostRuntime) -> Result<(), Fail> {
     let mut races = 0u32;
     for _ in 0..400 {
         let list = counter_list(rt.alloc(), &mut seed, &kinds)?;
-        assert!(rt; list.len() < 20);
         for version in [Version::One, Version::Two] {
-            let found = match disciplined(version, &list) {
-                Ok(()) => None,
-                Err(race) => Some((race.first as usize, race.second as usize)),
-            };
-            assert_eq!(rt;
-                found,
-                first_race(version, &list),
-                "{version:?} {:?}",
-                list.as_slice()
-            );
-            if found.is_some() {
+            let race = found(version, &list);
+            assert!(rt; race == first_race(version, &list));
+            if race.is_some() {
                 races = races.saturating_add(1);
             }
         }
@@ -360,9 +362,8 @@ fn a_count_of_all_pairs_finds_the_same(rt: HostRuntime) -> Result<(), Fail> {
     Ok(())
 }
 
-#[test]
-fn long_lists(rt: HostRuntime) -> Result<(), Fail> {
-    let mut list = Vec::new(rt.alloc());
+/// So many turns, each a read, an addition and a write that are waited for.
+fn turns(alloc: Global, count: u32) -> Result<Vec<Issue>, Fail> {
     let turn = [
         read(0, 1),
         Issue::TWait(1),
@@ -373,17 +374,42 @@ fn long_lists(rt: HostRuntime) -> Result<(), Fail> {
         Issue::TWait(2),
         Issue::WWait(0),
     ];
-    for _ in 0..31_250 {
+    let mut list = Vec::new(alloc);
+    for _ in 0..count {
         for issue in turn {
             list.push(issue)?;
         }
     }
-    assert_eq!(rt; list.len(), 250_000);
-    assert_eq!(rt; disciplined(Version::One, &list), Ok(()));
-    assert_eq!(rt; disciplined(Version::Two, &list), Ok(()));
-    list.push(turn[0])?;
-    list.push(turn[3])?;
-    assert_eq!(rt; disciplined(Version::One, &list), race(250_000, 250_001));
-    assert_eq!(rt; disciplined(Version::Two, &list), race(250_000, 250_001));
+    Ok(list)
+}
+
+/// So many reads, each to other cells than the seven before it, and each after a wait for the one eight before it.
+fn rolling_reads(alloc: Global, count: u32) -> Result<Vec<Issue>, Fail> {
+    let mut list = Vec::new(alloc);
+    for k in 0..count {
+        let tag = k % 8;
+        list.push(Issue::TWait(tag))?;
+        list.push(read(16 * tag, tag))?;
+    }
+    Ok(list)
+}
+
+#[test]
+fn many_issues_with_few_works_in_flight(rt: HostRuntime) -> Result<(), Fail> {
+    let mut list = rolling_reads(rt.alloc(), 50_000)?;
+    assert_eq!(rt; found(Version::Two, &list), None);
+    list.pop();
+    list.push(read(16, 0))?;
+    assert_eq!(rt; found(Version::Two, &list), Some((99_987, 99_999)));
+    Ok(())
+}
+
+#[test]
+fn long_lists(rt: HostRuntime) -> Result<(), Fail> {
+    let mut list = turns(rt.alloc(), 31_250)?;
+    assert_eq!(rt; both(&list), NONE);
+    list.push(read(0, 1))?;
+    list.push(vector(16, 0)?)?;
+    assert_eq!(rt; both(&list), same(250_000, 250_001));
     Ok(())
 }
