@@ -24,9 +24,11 @@ pub(crate) struct Resources {
     pub budget: u64,
 }
 
-/// A command with its names and numbers.
+/// A command with its names and numbers: what the words of the command line ask for. Names of files stand as the words
+/// have them; `lanes`, `spad` and `budget` are in the range of the command line.
 #[derive(Clone, Copy)]
 pub(crate) enum Request<'a> {
+    /// `run PROGRAM INPUTS IMAGE LANES SPAD`.
     Run {
         program: &'a str,
         inputs: &'a str,
@@ -34,27 +36,33 @@ pub(crate) enum Request<'a> {
         lanes: u32,
         spad: u32,
     },
+    /// `eval PROGRAM INPUTS`.
     Eval {
         program: &'a str,
         inputs: &'a str,
     },
+    /// `check PROGRAM SPAD`.
     Check {
         program: &'a str,
         spad: u32,
     },
+    /// `explain PROGRAM`.
     Explain {
         program: &'a str,
     },
+    /// `exec IMAGE INPUTS LANES SPAD BUDGET [GRANTS]`.
     Exec {
         image: &'a str,
         inputs: &'a str,
         resources: Resources,
         grants: Option<&'a str>,
     },
+    /// `asm TEXT IMAGE`.
     Asm {
         text: &'a str,
         image: &'a str,
     },
+    /// `disasm IMAGE`.
     Disasm {
         image: &'a str,
     },
