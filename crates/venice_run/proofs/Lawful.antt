@@ -61,7 +61,7 @@ use Rattle.venice_run.specs.Commands.{stages_of, answer_to}
 use Rattle.venice_run.specs.Disasm.{disasm}
 use Rattle.venice_run.specs.Endings.{parse_ending, check_ending, array_ending, grant_ending, image_ending, assembler_ending, machine_ending}
 use Rattle.venice_run.specs.Eval.{eval}
-use Rattle.venice_run.specs.Exec.{prints_run, exec}
+use Rattle.venice_run.specs.Exec.{Fed, prints_run, fed_image, exec}
 use Rattle.venice_run.specs.Explain.{explain}
 use Rattle.venice_run.specs.Grants.{ReadsGrants, grants_in, grants_under}
 use Rattle.venice_run.specs.Images.{image_in, image_under}
@@ -433,13 +433,19 @@ run_lawful files program inputs spad =
     then_lawful (room_lawful files (addition_need addition) spad) (λ _.
     then_lawful (inputs_lawful files inputs (input_table checked)) (λ arrays. prints_lawful files _))))
 
+fed_lawful : (files : Behaviour) (image inputs : List ℕ) (spad : ℕ) → Lawful files (fed_image files image inputs spad)
+unfolding fed_image
+fed_lawful files image inputs spad =
+    then_lawful (image_lawful files image) (λ loaded.
+    then_lawful (room_lawful files loaded.spad spad) (λ _.
+    then_lawful (inputs_lawful files inputs loaded.arrays) (λ arrays.
+    gives_lawful files (λ (fed : Fed). fed ≡ record { image = loaded; arrays = arrays }) (λ sure a b p q. p ∙ sym q))))
+
 exec_lawful : (files : Behaviour) (image inputs : List ℕ) (resources : Resources) (grants : Option (List ℕ)) → Lawful files (exec files image inputs resources grants)
 unfolding exec
 exec_lawful files image inputs resources grants =
-    then_lawful (image_lawful files image) (λ loaded.
-    then_lawful (room_lawful files loaded.spad resources.spad) (λ _.
-    then_lawful (inputs_lawful files inputs loaded.arrays) (λ arrays.
-    then_lawful (grants_lawful files grants) (λ list. prints_run_lawful files loaded.arrays _))))
+    then_lawful (fed_lawful files image inputs resources.spad) (λ fed.
+    then_lawful (grants_lawful files grants) (λ list. prints_run_lawful files fed.image.arrays _))
 
 asm_lawful : (files : Behaviour) (text image : List ℕ) → Lawful files (asm files text image)
 unfolding asm

@@ -6,12 +6,10 @@ ghost use Rattle.venice_run.specs.Requests.{IsRun, IsEval, IsCheck, IsExplain, I
 
 use crate::command::Command;
 use itoa::Buffer;
+use ven_base::CELL_LIMIT;
 
 /// The greatest number of lanes of a machine.
 const MOST_LANES: u32 = 4;
-
-/// The greatest size of a scratchpad, in bytes.
-const MOST_SCRATCHPAD: u32 = 1_048_576;
 
 /// The most steps that a run may be allowed.
 const MOST_STEPS: u64 = 1_099_511_627_776;
@@ -134,7 +132,7 @@ fn run_request(words: &[String]) -> Option<Request<'_>>
         return None;
     }
     let lanes = number_up_to(MOST_LANES, lanes)?;
-    let spad = number_up_to(MOST_SCRATCHPAD, spad)?;
+    let spad = number_up_to(CELL_LIMIT, spad)?;
     Some(Request::Run {
         program,
         inputs,
@@ -167,7 +165,7 @@ fn check_request(words: &[String]) -> Option<Request<'_>>
     if word.as_str() != "check" {
         return None;
     }
-    let spad = number_up_to(MOST_SCRATCHPAD, spad)?;
+    let spad = number_up_to(CELL_LIMIT, spad)?;
     Some(Request::Check { program, spad })
 }
 
@@ -256,7 +254,7 @@ fn read_resources(lanes: &str, spad: &str, budget: &str) -> Option<Resources>
         (SpellResources lanes.now spad.now budget.now) }
 {
     let lanes = number_up_to(MOST_LANES, lanes)?;
-    let spad = number_up_to(MOST_SCRATCHPAD, spad)?;
+    let spad = number_up_to(CELL_LIMIT, spad)?;
     let budget = long_number_up_to(MOST_STEPS, budget)?;
     Some(Resources {
         lanes,
