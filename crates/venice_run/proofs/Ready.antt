@@ -26,11 +26,14 @@ module _ (files : Behaviour) (image inputs : List ℕ) (resources : Resources) w
       subst (λ (x : Result MachineContents Ending). readies files image inputs resources (as_stage (λ machine. machine) x)) (sym (p.1 ∙ ap Err p.2)) is
 
   -- the machine of an image that is there and has room, on arrays that are there
-  pub made : (loaded : ImageContents) (arrays : Pairs) → image_under files image (Ok loaded) → has_room loaded.spad resources.spad (Ok tt) → arrays_under files inputs (Ok arrays)
+  pub made : (loaded : ImageContents) (arrays : Pairs) → image_under files image (Ok loaded) → has_room loaded.spad resources.spad (Ok tt)
+      → arrays_under files inputs (Ok arrays)
       → (r : Result MachineContents Ending) → fitting loaded.arrays arrays (as_stage (λ _. arrays) r)
       → IfOk r (λ machine. machine.setup ≡ setup_of loaded resources.lanes) → IfOk r (λ machine. Shows machine (start_state loaded arrays resources.spad))
       → readies files image inputs resources (as_stage (λ machine. machine) r)
   unfolding fed_image inputs_under
   made loaded arrays is room read (Ok machine) fits setup shows =
-      (record { image = loaded; arrays = arrays }, Goes loaded is (Goes tt room (Goes arrays (Goes arrays read fits) refl)), record { setup = setup; shows = shows })
+      (record { image = loaded; arrays = arrays },
+      Goes loaded is (Goes tt room (Goes arrays (Goes arrays read fits) refl)),
+      record { setup = setup; shows = shows })
   made loaded arrays is room read (Err ending) fits setup shows = Goes loaded is (Goes tt room (Ends ending (Goes arrays read fits) refl))

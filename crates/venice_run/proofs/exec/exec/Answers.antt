@@ -28,7 +28,9 @@ returns-clause-answer g c =
     let start = start_state ready.0.image ready.0.arrays c.args.resources.spad in
     Goes ready.0 ready.1.0
     (Goes c.in_ok-list.list (rw c.in_ok-machine.ensures.only.content at c.in_ok-list.ensures.read)
-    (subst (λ (setup : Setup). prints_run setup.table (run setup c.args.resources.budget c.in_ok-list.list start) (as_stage answer_of c.print_run.result)) ready.1.1.setup
+    (subst
+    (λ (setup : Setup). prints_run setup.table (run setup c.args.resources.budget c.in_ok-list.list start) (as_stage answer_of c.print_run.result))
+    ready.1.1.setup
     (c.print_run.ensures start ready.1.1.shows)))
 
 pub returns-in_err-list-clause-only : goal.returns-in_err-list-clause-only
@@ -37,7 +39,11 @@ returns-in_err-list-clause-only g c =
     let same = gone.1 ∙ ap Err gone.2 in
     let last = c.in_err-list.ensures.only in
     loads_more (went_well _) c.in_ok-machine.ensures.only
-    (record { content = last.content; loads = counts_same _ _ (λ p. same ∙ ap Err (err_is _ _ p)) (λ q. ap Err (err_is _ _ (sym same ∙ q))) last.loads; saves = last.saves })
+    (record {
+      content = last.content;
+      loads = counts_same _ _ (λ p. same ∙ ap Err (err_is _ _ p)) (λ q. ap Err (err_is _ _ (sym same ∙ q))) last.loads;
+      saves = last.saves;
+    })
 
 pub returns-clause-only : goal.returns-clause-only
 returns-clause-only g c =
