@@ -101,7 +101,7 @@ rows_own whole a elem shape domain fold names before after t is domain_is h =
     subst (λ (e : Node). IsOwn (record { kind = kinds.Reduce fold; domain = domain; elem = elem; term = t }) before after e (own_of names before.next e)) (sym is)
     (record { kind = refl; domain = domain_is ∙ sym (shape_of-node a); elem = refl; term = h.term_is; passes = h.passes; counted = h.counted; few = omega (arith, h.few) })
 
-pub fold_own : (whole : Node) (a : Typed) (elem : Elem) (shape domain row : Extent) (fold : ops.Fold) (names : List (TreeOver Leaf)) (before mid after : Plan) (t u : Term)
+fold_own : (whole : Node) (a : Typed) (elem : Elem) (shape domain row : Extent) (fold : ops.Fold) (names : List (TreeOver Leaf)) (before mid after : Plan) (t u : Term)
     → whole ≡ node.Fold elem shape fold (node_of a) → domain ≡ a.shape → row ≡ as_row domain → IsSeen t before mid (node_of a) (seen_of Inside names before.next (node_of a))
     → IsCutOf u elem row (record { kind = kinds.Reduce fold; domain = domain; elem = elem; term = t }) mid after
     → IsOwn (record { kind = kinds.Reduce fold; domain = row; elem = elem; term = u }) before after whole (own_of names before.next whole)
@@ -122,6 +122,26 @@ fold_own whole a elem shape domain row fold names before mid after t u is domain
       counted = omega (arith, g.counted, h.counted, length-append of.passes (first ∷ []));
       few = omega (arith, g.counted, h.few);
     })
+
+-- the same of what `column` makes of the rows' reductions
+pub column_own : (whole : Node) (a : Typed) (elem : Elem) (shape domain : Extent) (fold : ops.Fold) (names : List (TreeOver Leaf)) (before mid after : Plan) (t : Term) (rows o : Own)
+    → whole ≡ node.Fold elem shape fold (node_of a) → domain ≡ a.shape → IsSeen t before mid (node_of a) (seen_of Inside names before.next (node_of a))
+    → rows ≡ record { kind = kinds.Reduce fold; domain = domain; elem = elem; term = t } → (o.kind ≡ rows.kind) × (o.domain ≡ as_row rows.domain) × (o.elem ≡ rows.elem)
+    → IsCutOf o.term rows.elem (as_row rows.domain) rows mid after → IsOwn o before after whole (own_of names before.next whole)
+column_own whole a elem shape domain fold names before mid after t rows o is domain_is h rows_is same g =
+    let cut : IsCutOf o.term elem (as_row domain) (record { kind = kinds.Reduce fold; domain = domain; elem = elem; term = t }) mid after =
+    subst (λ (x : Own). IsCutOf o.term x.elem (as_row x.domain) x mid after) rows_is g in
+    let kind_is : o.kind ≡ kinds.Reduce fold = same.0 ∙ ap (λ (x : Own). x.kind) rows_is in
+    let row_is : o.domain ≡ as_row domain = same.1 ∙ ap (λ (x : Own). as_row x.domain) rows_is in
+    let elem_is : o.elem ≡ elem = same.2 ∙ ap (λ (x : Own). x.elem) rows_is in
+    let made : Own = record { kind = kinds.Reduce fold; domain = as_row domain; elem = elem; term = o.term } in
+    let whole_is : made ≡ o = λ i. record { kind = sym kind_is i; domain = sym row_is i; elem = sym elem_is i; term = o.term } in
+    subst (λ (x : Own). IsOwn x before after whole (own_of names before.next whole)) whole_is
+    (fold_own whole a elem shape domain (as_row domain) fold names before mid after t o.term is domain_is refl h cut)
+
+pub ok_both : {T E : Type 0} (r : Result T E) (P Q R : T → Type 0) → ((x : T) → P x → Q x → R x) → IfOk r P → IfOk r Q → IfOk r R
+ok_both (Ok x) P Q R f h g = f x h g
+ok_both (Err e) P Q R f h g = h
 
 pub ok_same : {T E : Type 0} (r : Result T E) (P Q : T → Type 0) → ((x : T) → P x → Q x) → IfOk r P → IfOk r Q
 ok_same (Ok x) P Q f h = f x h
