@@ -3,7 +3,7 @@ use Rattle.pass_plan.specs.Need.{need_of}
 use Rattle.pass_plan.specs.Sound.{Split, IsSound}
 use Rattle.pass_plan.specs.Shown.{split_of}
 use Rattle.dma_schedule.proofs.ExampleSplit.{sound, need_is}
-use Rattle.list_tests.proofs.lists.list_of.Goals as goal
+use Rattle.plan_tests.proofs.lists.list_of.Goals as goal
 
 pub pipeline-requires-clause-sound : goal.pipeline-requires-clause-sound
 pipeline-requires-clause-sound c = subst IsSound (sym c.in_ok-split.ensures) sound
