@@ -3,6 +3,7 @@
 ghost use Rattle.std.specs.Prelude.{◌≡◌, ◌<◌, IfOk, IsTrue, All, length};
 ghost use Rattle.ven_base.specs.Store.{store_of, store_size, IsInRange};
 ghost use Rattle.venice_isa.specs.Footprint.{HasFootprint};
+ghost use Rattle.dma_engine.specs.declared.direction.Direction.TheVariants.{IntoCells};
 ghost use Rattle.dma_engine.specs.Direction.{HasBytes, issue_of};
 
 use dma_engine::{Channel, Directed, ReadChannel, Reads, WriteChannel, Writes};
@@ -146,121 +147,134 @@ fn run<D: Directed>(
     Ok(beats_of(&mut channel, false, cells, memory))
 }
 
+/// Rows of bytes: where they begin and how far apart they are, here and there; the number of beats, and some places of
+/// the target with their bytes.
+struct Copy {
+    from: (u32, u32),
+    to: (u32, u32),
+    rows: u32,
+    bytes: u32,
+    beats: u32,
+    probes: [(u32, u8); 4],
+}
+
+const COPIES: [Copy; 8] = [
+    Copy {
+        from: (5, 0),
+        to: (9, 0),
+        rows: 1,
+        bytes: 1,
+        beats: 1,
+        probes: [(8, 200), (9, 6), (10, 200), (0, 200)],
+    },
+    Copy {
+        from: (0, u32::MAX),
+        to: (3, u32::MAX),
+        rows: 1,
+        bytes: 15,
+        beats: 1,
+        probes: [(2, 200), (3, 1), (17, 15), (18, 200)],
+    },
+    Copy {
+        from: (0, 0),
+        to: (16, 0),
+        rows: 1,
+        bytes: 16,
+        beats: 1,
+        probes: [(15, 200), (16, 1), (31, 16), (32, 200)],
+    },
+    Copy {
+        from: (0, 32),
+        to: (30, 17),
+        rows: 2,
+        bytes: 17,
+        beats: 4,
+        probes: [(30, 1), (46, 17), (47, 33), (63, 49)],
+    },
+    Copy {
+        from: (31, 0),
+        to: (0, 33),
+        rows: 1,
+        bytes: 33,
+        beats: 3,
+        probes: [(0, 32), (16, 48), (32, 64), (33, 200)],
+    },
+    Copy {
+        from: (0, 0),
+        to: (0, 20),
+        rows: 3,
+        bytes: 3,
+        beats: 3,
+        probes: [(2, 3), (3, 200), (22, 3), (40, 1)],
+    },
+    Copy {
+        from: (0, 1),
+        to: (3, 0),
+        rows: 2,
+        bytes: 1,
+        beats: 2,
+        probes: [(2, 200), (3, 2), (4, 200), (0, 200)],
+    },
+    Copy {
+        from: (0, 20),
+        to: (10, 4),
+        rows: 3,
+        bytes: 18,
+        beats: 6,
+        probes: [(10, 1), (14, 21), (18, 41), (35, 58)],
+    },
+];
+
+/// Whether cells have these bytes, and the flag beside those alone that are still 200.
+fn cells_have(cells: &Spad, probes: &[(u32, u8); 4]) -> bool {
+    probes.iter().all(|(place, byte)| {
+        *place < cells.len() && cells.byte(*place) == *byte && cells.flag(*place) == (*byte == 200)
+    })
+}
+
+fn memory_has(memory: &MainMem, probes: &[(u32, u8); 4]) -> bool {
+    probes.iter().all(|(place, byte)| *place < memory.len() && memory.byte(*place) == *byte)
+}
+
+/// Whether a read copies the rows.
+fn is_read(alloc: Global, copy: &Copy) -> Result<bool, AllocError> {
+    let read = DmaWork {
+        mem: copy.from.0,
+        mem_step: copy.from.1,
+        spad: copy.to.0,
+        spad_step: copy.to.1,
+        rows: copy.rows,
+        bytes: copy.bytes,
+        tag: 0,
+    };
+    let mut cells = cells_with(alloc, &[200; 64])?;
+    let mut memory = memory_with(alloc, &numbered())?;
+    let beats = run::<Reads>(alloc, read, &mut cells, &mut memory)?;
+    Ok(beats == copy.beats && cells_have(&cells, &copy.probes))
+}
+
+/// Whether a write does.
+fn is_written(alloc: Global, copy: &Copy) -> Result<bool, AllocError> {
+    let write = DmaWork {
+        mem: copy.to.0,
+        mem_step: copy.to.1,
+        spad: copy.from.0,
+        spad_step: copy.from.1,
+        rows: copy.rows,
+        bytes: copy.bytes,
+        tag: 0,
+    };
+    let mut cells = cells_with(alloc, &numbered())?;
+    let mut memory = memory_with(alloc, &[200; 64])?;
+    let beats = run::<Writes>(alloc, write, &mut cells, &mut memory)?;
+    Ok(beats == copy.beats && memory_has(&memory, &copy.probes))
+}
+
 #[test]
 fn rows_are_copied_by_beats(rt: HostRuntime) -> Result<(), Fail> {
-    // The source's place and step, the target's, rows, bytes, beats, and some places of the target with their bytes.
-    let table = [
-        (
-            (5, 0),
-            (9, 0),
-            1,
-            1,
-            1,
-            [(8, 200), (9, 6), (10, 200), (0, 200)],
-        ),
-        (
-            (0, u32::MAX),
-            (3, u32::MAX),
-            1,
-            15,
-            1,
-            [(2, 200), (3, 1), (17, 15), (18, 200)],
-        ),
-        (
-            (0, 0),
-            (16, 0),
-            1,
-            16,
-            1,
-            [(15, 200), (16, 1), (31, 16), (32, 200)],
-        ),
-        (
-            (0, 32),
-            (30, 17),
-            2,
-            17,
-            4,
-            [(30, 1), (46, 17), (47, 33), (63, 49)],
-        ),
-        (
-            (31, 0),
-            (0, 33),
-            1,
-            33,
-            3,
-            [(0, 32), (16, 48), (32, 64), (33, 200)],
-        ),
-        (
-            (0, 0),
-            (0, 20),
-            3,
-            3,
-            3,
-            [(2, 3), (3, 200), (22, 3), (40, 1)],
-        ),
-        (
-            (0, 1),
-            (3, 0),
-            2,
-            1,
-            2,
-            [(2, 200), (3, 2), (4, 200), (0, 200)],
-        ),
-        (
-            (0, 20),
-            (10, 4),
-            3,
-            18,
-            6,
-            [(10, 1), (14, 21), (18, 41), (35, 58)],
-        ),
-    ];
-    let (source, target) = (numbered(), [200; 64]);
-    for ((from, from_step), (to, to_step), rows, bytes, beats, probes) in table {
-        let read = DmaWork {
-            mem: from,
-            mem_step: from_step,
-            spad: to,
-            spad_step: to_step,
-            rows,
-            bytes,
-            tag: 0,
-        };
-        let mut cells = cells_with(rt.alloc(), &target)?;
-        let mut memory = memory_with(rt.alloc(), &source)?;
-        assert_eq!(rt;
-            run::<Reads>(rt.alloc(), read, &mut cells, &mut memory)?,
-            beats,
-            "{read:?}"
-        );
-        for (place, byte) in probes {
-            assert!(rt; place < cells.len());
-            assert_eq!(rt;
-                (cells.byte(place), cells.flag(place)),
-                (byte, byte == 200),
-                "{read:?} {place}"
-            );
-        }
-        let write = DmaWork {
-            mem: to,
-            mem_step: to_step,
-            spad: from,
-            spad_step: from_step,
-            rows,
-            bytes,
-            tag: 0,
-        };
-        let mut cells = cells_with(rt.alloc(), &source)?;
-        let mut memory = memory_with(rt.alloc(), &target)?;
-        assert_eq!(rt;
-            run::<Writes>(rt.alloc(), write, &mut cells, &mut memory)?,
-            beats,
-            "{write:?}"
-        );
-        for (place, byte) in probes {
-            assert!(rt; place < memory.len());
-            assert_eq!(rt; memory.byte(place), byte, "{write:?} {place}");
-        }
+    for copy in &COPIES {
+        assert!(rt; is_read(rt.alloc(), copy)?, "read to {}", copy.to.0);
+        assert!(rt; is_written(rt.alloc(), copy)?, "write to {}", copy.to.0);
     }
     Ok(())
 }
@@ -278,6 +292,71 @@ fn piece(from: u32, to: u32, bytes: u32, tag: u32) -> DmaWork {
     }
 }
 
+/// The bytes of four cells, or 0 where there are no such cells.
+fn bytes_at(cells: &Spad, places: [u32; 4]) -> [u8; 4] {
+    places.map(|place| if place < cells.len() {
+        cells.byte(place)
+    } else {
+        0
+    })
+}
+
+/// How many works the channel has left, how many of them with these tags, and the bytes of four cells.
+type Stage = (u32, [u32; 2], [u8; 4]);
+
+fn stage(channel: &ReadChannel, cells: &Spad) -> Stage {
+    (
+        channel.unfinished(),
+        [channel.tagged(7), channel.tagged(8)],
+        bytes_at(cells, [15, 16, 48, 49]),
+    )
+}
+
+/// A beat of the first of three reads, two of the second, which is then over, and the stages behind them; none where a
+/// beat isn't made.
+fn first_and_second(
+    channel: &mut ReadChannel,
+    cells: &mut Spad,
+    memory: &mut MainMem,
+) -> [Option<Stage>; 3]
+    requires inside { All (λ job. HasFootprint (store_size (store_of cells.old memory.old))
+        (issue_of IntoCells job.work)) channel.old }
+    ensures inside { All (λ job. HasFootprint (store_size (store_of cells.new memory.new))
+        (issue_of IntoCells job.work)) channel.new }
+{
+    let first = stage_behind(channel, false, cells, memory);
+    let second = stage_behind(channel, true, cells, memory);
+    let third = stage_behind(channel, true, cells, memory);
+    [first, second, third]
+}
+
+/// The stage behind a beat, where one is made.
+fn stage_behind(
+    channel: &mut ReadChannel,
+    second: bool,
+    cells: &mut Spad,
+    memory: &mut MainMem,
+) -> Option<Stage>
+    requires inside { All (λ job. HasFootprint (store_size (store_of cells.old memory.old))
+        (issue_of IntoCells job.work)) channel.old }
+    ensures inside { All (λ job. HasFootprint (store_size (store_of cells.new memory.new))
+        (issue_of IntoCells job.work)) channel.new }
+{
+    if beat_of(channel, second, cells, memory) {
+        Some(stage(channel, cells))
+    } else {
+        None
+    }
+}
+
+/// The first two works of a channel, where it has so many.
+fn first_two(channel: &ReadChannel) -> Option<(DmaWork, DmaWork)> {
+    if channel.unfinished() < 2 {
+        return None;
+    }
+    Some((*channel.work(0), *channel.work(1)))
+}
+
 #[test]
 fn the_second_transfer_may_end_first(rt: HostRuntime) -> Result<(), Fail> {
     let mut cells = cells_with(rt.alloc(), &[200; 64])?;
@@ -289,45 +368,23 @@ fn the_second_transfer_may_end_first(rt: HostRuntime) -> Result<(), Fail> {
         piece(20, 50, 2, 7),
     ];
     assert_eq!(rt; offer_all(&mut channel, &works, &cells, &memory), 3);
+    let stages = first_and_second(&mut channel, &mut cells, &mut memory);
     assert_eq!(rt;
-        (channel.tagged(7), channel.tagged(8), channel.tagged(0)),
-        (2, 1, 0)
+        stages,
+        [
+            Some((3, [2, 1], [16, 200, 200, 200])),
+            Some((3, [2, 1], [16, 200, 26, 200])),
+            Some((2, [2, 0], [16, 200, 26, 27])),
+        ]
     );
-    assert!(rt; beat_of(&mut channel, false, &mut cells, &mut memory));
-    assert!(rt; beat_of(&mut channel, true, &mut cells, &mut memory));
-    assert_eq!(rt;
-        (channel.unfinished(), cells.byte(48), cells.byte(49)),
-        (3, 26, 200)
-    );
-    assert!(rt; beat_of(&mut channel, true, &mut cells, &mut memory));
-    assert_eq!(rt;
-        (
-            channel.unfinished(),
-            cells.byte(15),
-            cells.byte(16),
-            cells.byte(49)
-        ),
-        (2, 16, 200, 27)
-    );
-    assert_eq!(rt; (channel.tagged(7), channel.tagged(8)), (2, 0));
-    assert!(rt; 1 < channel.unfinished());
-    assert!(rt; *channel.work(0) == works[0] && *channel.work(1) == works[2]);
+    assert!(rt; first_two(&channel) == Some((works[0], works[2])));
     assert_eq!(rt; beats_of(&mut channel, true, &mut cells, &mut memory), 1);
-    assert_eq!(rt;
-        (
-            channel.unfinished(),
-            cells.byte(16),
-            cells.byte(50),
-            cells.byte(51)
-        ),
-        (1, 200, 21, 22)
-    );
+    assert_eq!(rt; bytes_at(&cells, [16, 32, 50, 51]), [200, 200, 21, 22]);
     assert_eq!(rt; beats_of(&mut channel, false, &mut cells, &mut memory), 2);
     assert_eq!(rt;
-        (channel.unfinished(), cells.byte(16), cells.byte(32)),
-        (0, 17, 33)
+        (channel.unfinished(), bytes_at(&cells, [15, 16, 32, 51])),
+        (0, [16, 17, 33, 22])
     );
-    assert!(rt; !beat_of(&mut channel, false, &mut cells, &mut memory));
     Ok(())
 }
 

@@ -19,19 +19,19 @@ pub returns-in_err-list-clause-answer : goal.returns-in_err-list-clause-answer
 unfolding exec
 returns-in_err-list-clause-answer g c =
     let ready = c.in_ok-machine.ensures.answer in
-    Goes ready.0 ready.1.0 (ends answer_of _ _ c.from_residual-in_err-list.ensures.1 (rw c.in_ok-machine.ensures.only.content at c.in_err-list.ensures.read))
+    Goes ready.0 ready.1 (ends answer_of _ _ c.from_residual-in_err-list.ensures.1 (rw c.in_ok-machine.ensures.only.content at c.in_err-list.ensures.read))
 
 pub returns-clause-answer : goal.returns-clause-answer
 unfolding exec
 returns-clause-answer g c =
     let ready = c.in_ok-machine.ensures.answer in
     let start = start_state ready.0.image ready.0.arrays c.args.resources.spad in
-    Goes ready.0 ready.1.0
+    Goes ready.0 ready.1
     (Goes c.in_ok-list.list (rw c.in_ok-machine.ensures.only.content at c.in_ok-list.ensures.read)
     (subst
     (λ (setup : Setup). prints_run setup.table (run setup c.args.resources.budget c.in_ok-list.list start) (as_stage answer_of c.print_run.result))
-    ready.1.1.setup
-    (c.print_run.ensures start ready.1.1.shows)))
+    ready.2.setup
+    (c.print_run.ensures start ready.2.shows)))
 
 pub returns-in_err-list-clause-only : goal.returns-in_err-list-clause-only
 returns-in_err-list-clause-only g c =
@@ -56,7 +56,7 @@ returns-clause-only g c =
     (record {
       content = last.content;
       loads = counts_none _ _ (went_well _)
-          (λ e. run_no_file setup.table end (subst (λ r. prints_run setup.table end (as_stage answer_of r)) e (c.print_run.ensures start ready.1.1.shows)))
+          (λ e. run_no_file setup.table end (subst (λ r. prints_run setup.table end (as_stage answer_of r)) e (c.print_run.ensures start ready.2.shows)))
           last.loads;
       saves = last.saves;
     })

@@ -1,8 +1,8 @@
-use Rattle.std.proofs.Common.{refl, ap}
+use Rattle.std.proofs.Common.{refl, ap, subst}
 use Rattle.image_loader.specs.Image.{ImageContents}
 use Rattle.venice_run.specs.Exec.{fed_image}
 use Rattle.venice_run.specs.Inputs.{fitting, inputs_under}
-use Rattle.venice_run.specs.Stage.{Goes, Ends}
+use Rattle.venice_run.specs.Stage.{Goes, Ends, as_stage}
 use Rattle.venice_run.proofs.NoFile.{loads_more, counts_none, misfit_no_file, went_well}
 use Rattle.venice_run.proofs.Ready.{none, made}
 use Rattle.venice_run.proofs.exec.fed_machine.Goals as goal
@@ -35,10 +35,13 @@ returns-clause-answer g c =
 
 pub returns-clause-only : goal.returns-clause-only
 returns-clause-only g c =
+    let table = c.in_ok-loaded.loaded.arrays in
+    let arrays = c.in_ok-arrays.arrays in
     let last = c.in_ok-arrays.ensures.only in
     loads_more (went_well _) c.in_ok-loaded.ensures.only
     (record {
       content = last.content;
-      loads = counts_none _ _ (went_well _) (λ e. misfit_no_file _ _ (rw e at c.make_machine.ensures.fits)) last.loads;
+      loads = counts_none _ _ (went_well _)
+          (λ e. misfit_no_file table arrays (subst (λ r. fitting table arrays (as_stage (λ _. arrays) r)) e c.make_machine.ensures.fits)) last.loads;
       saves = last.saves;
     })
