@@ -12,7 +12,7 @@ use ven_base::{Elem, Fold, Mapping, Shape};
 use venice_isa::{VecOp, VecWork};
 
 /// The sums of two rows of nine.
-fn row_sums(alloc: Global) -> Result<Pass, AllocError>
+pub(crate) fn row_sums(alloc: Global) -> Result<Pass, AllocError>
     ensures { IfOk result (λ pass. pass_of pass ≡ spec.row_sums) }
 {
     let shape = Shape { rows: 2, cols: 9 };
