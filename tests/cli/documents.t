@@ -11,6 +11,20 @@ README shows a file as it is. Its picture has a square for each value of the inp
   $ awk '/<g>/ { print "" } /<rect x/' docs/blur.svg | sed 's/.*rgb(\([0-9]*\),.*/\1/' | sed '/^$/d' > greys
   $ cmp values greys
 
+Each link of a page leads to a file, and each definition that the glossary names is in its crate.
+
+  $ top=$TESTDIR/../..
+  $ for page in README.md docs/*.md docs/tutorial/*.md; do
+  >   grep -o '](\([^):#]*\)' $page | cut -c 3- | while read -r link; do
+  >     [ -e "$top/$(dirname $page)/$link" ] || echo "$page: $link"
+  >   done
+  > done
+  $ sed -n '/^## Words to avoid/q; s/^|.*| \([a-z].*`.*\) |$/\1/p' docs/GLOSSARY.md | grep -v '](' | tr -d ',`' |
+  >   awk '{ for (k = 1; k <= NF; k++) if ($k ~ /^[a-z]/) crate = $k; else print crate "/specs/" $k ".antt" }' > named
+  $ wc -l < named | awk '{ print ($1 > 60) }'
+  1
+  $ while read -r file; do [ -e "$top/crates/$file" ] || echo $file; done < named
+
 The pages that show commands with what they print. Each is made a transcript of its own, in a folder that stands for the top of the
 repository, out of its blocks that begin with a command. A page that draws pictures wants Debian's numpy and pil.
 

@@ -153,6 +153,11 @@ Grants: pairs of digits of either case, with blanks and line ends between them, 
   $ venice exec halt.image empty.arrays 1 16 1 most.grants
   error: grants too long
   [4]
+  $ head -c 67108865 /dev/zero | tr '\0' ' ' > try.grants
+  $ venice exec halt.image empty.arrays 1 16 1 try.grants
+  error: grants too long
+  [4]
+  $ rm try.grants
   $ venice exec halt.image empty.arrays 1 16 1 no.grants
   error: file
   [8]

@@ -215,6 +215,36 @@ A read may write one cell twice, row after row.
   steps 15
   cycles 13
 
+The same in version 2, where the write waits for the read by its tag.
+
+  $ asm twice2 <<END
+  > version 2
+  > spad 4
+  > memory 8
+  > array x in u8[1,2] 0
+  > array y out u8[1,1] 4
+  > li r1 1
+  > li r2 2
+  > li r3 4
+  > set mrows r2
+  > set mbytes r1
+  > set mstep r1
+  > tag r1
+  > dma read
+  > twait r1
+  > set mrows r1
+  > set mem r3
+  > dma write
+  > halt
+  > END
+  $ venice exec twice2.image twice.arrays 4 4 100
+  y u8[1,1]
+  9
+  steps 16
+  cycles 14
+  $ venice disasm twice2.image | head -n 1
+  version 2
+
 A vector instruction, or a transfer, of no elements, rows or bytes; and a transfer past the end of memory.
 
   $ asm novec <<END

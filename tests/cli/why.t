@@ -275,11 +275,11 @@ Assembler texts. A fault of the image's table is at a byte of the image; here it
   `a` takes the bytes 0 to 3
   [6]
   $ try 'array sum in u8[1,4] 0' halt
-  error: text table at 21
-  try.asm:3:7: the name of array `sum`
+  error: text unexpected at 23
+  try.asm:3:7: `sum` can't stand here
       array sum in u8[1,4] 0
             ^
-  a name has 1 to 31 bytes, is no word of the array language and no earlier array's
+  here could stand: a name
   [6]
   $ try 'loop: jmp lop' halt
   error: text label unknown at 27

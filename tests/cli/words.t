@@ -92,7 +92,7 @@ BUDGET is 1 to 1,099,511,627,776, in the same form.
 
 The other commands take just their words, too.
 
-  $ for words in 'eval' 'eval a' 'check a' 'check a 0' 'check a 1048577' 'explain' 'run a b' 'asm' 'asm a' 'asm a b c' 'disasm' 'disasm a b' 'exec a b 1 1' 'exec a b 1 1 1 c d' 'exec a b 5 1 1' 'exec a b 1 0 1 c' 'exec a b 1 1048577 1 c'; do
+  $ for words in 'eval' 'eval a' 'check a' 'check a 0' 'check a 1048577' 'explain' 'run a b' 'asm' 'asm a' 'asm a b c' 'disasm' 'disasm a b' 'exec a b 1 1' 'exec a b 1 1 1 c d' 'exec a b 5 1 1' 'exec a b 1 0 1 c' 'exec a b 1 1048577 1 c' 'exec a b 1 1 1099511627777 c'; do
   >   line=$(venice $words)
   >   echo "$? $line: $words"
   > done
@@ -113,6 +113,7 @@ The other commands take just their words, too.
   2 error: usage: exec a b 5 1 1
   2 error: usage: exec a b 1 0 1 c
   2 error: usage: exec a b 1 1048577 1 c
+  2 error: usage: exec a b 1 1 1099511627777 c
 
 The words come before everything else: no file is looked at.
 

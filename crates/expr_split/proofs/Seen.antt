@@ -21,7 +21,7 @@ use Rattle.expr_split.specs.declared.drafts.Own.{Own}
 use Rattle.expr_split.specs.declared.drafts.Plan.{Plan}
 use Rattle.expr_split.specs.Cuts as cuts
 use Rattle.expr_split.specs.Cuts.{Place, Inside, is_cut, whole_leaf, seen_if, as_row, own_of, seen_of, draft_of}
-use Rattle.expr_split.specs.Terms.{term_of, drafts_of, IsOwn, IsSeen, IsCutOf}
+use Rattle.expr_split.specs.Terms.{term_of, drafts_of, IsOwn, IsSeen, IsCutOf, IsColumnOf}
 
 pub height_some : {L : Type 0} (t : TreeOver L) → 1 ≤ height_of t
 height_some (AtLeaf l) = omega arith
@@ -122,6 +122,24 @@ fold_own whole a elem shape domain row fold names before mid after t u is domain
       counted = omega (arith, g.counted, h.counted, length-append of.passes (first ∷ []));
       few = omega (arith, g.counted, h.few);
     })
+
+-- the same, as the code makes it: of rows that are this pass
+pub column_own : (whole : Node) (a : Typed) (elem : Elem) (shape domain : Extent) (fold : ops.Fold) (names : List (TreeOver Leaf)) (before mid after : Plan) (t : Term) (rows own : Own)
+    → whole ≡ node.Fold elem shape fold (node_of a) → domain ≡ a.shape → IsSeen t before mid (node_of a) (seen_of Inside names before.next (node_of a))
+    → rows ≡ record { kind = kinds.Reduce fold; domain = domain; elem = elem; term = t } → IsColumnOf own rows mid after
+    → IsOwn own before after whole (own_of names before.next whole)
+column_own whole a elem shape domain fold names before mid after t rows own is domain_is h rows_is made =
+    let column = subst (λ (r : Own). IsColumnOf own r mid after) rows_is made in
+    let whole_is = fold_own whole a elem shape domain (as_row domain) fold names before mid after t own.term is domain_is refl h column.cut in
+    record {
+      kind = column.kind ∙ whole_is.kind;
+      domain = column.domain ∙ whole_is.domain;
+      elem = column.elem ∙ whole_is.elem;
+      term = whole_is.term;
+      passes = whole_is.passes;
+      counted = whole_is.counted;
+      few = whole_is.few;
+    }
 
 pub ok_same : {T E : Type 0} (r : Result T E) (P Q : T → Type 0) → ((x : T) → P x → Q x) → IfOk r P → IfOk r Q
 ok_same (Ok x) P Q f h = f x h

@@ -13,7 +13,7 @@ use Rattle.expr_split.specs.declared.drafts.Draft.{Draft}
 use Rattle.expr_split.specs.declared.drafts.Own.{Own}
 use Rattle.expr_split.specs.declared.drafts.Plan.{Plan}
 use Rattle.expr_split.specs.Cuts as cuts
-use Rattle.expr_split.specs.Cuts.{whole_leaf, Place, own_of, seen_of, draft_of}
+use Rattle.expr_split.specs.Cuts.{whole_leaf, Place, as_row, own_of, seen_of, draft_of}
 
 abbrev pub term_of : Term → TreeOver leaves.Leaf
 term_of (Leaf leaf) = AtLeaf leaf
@@ -61,3 +61,10 @@ pub record IsCutOf (term : Term) (elem : Elem) (shape : Extent) (own : Own) (bef
   pub term_is : term_of term ≡ AtLeaf (whole_leaf before.next elem shape)
   pub passes : drafts_of after ≡ drafts_of before ++ cut_draft own ∷ []
   pub counted : after.next ≡ before.next + 1
+
+-- the pass of these rows went last; the root of the pass that reduces what it makes, as one row
+pub record IsColumnOf (own rows : Own) (before after : Plan) : Type 0 where
+  pub kind : own.kind ≡ rows.kind
+  pub domain : own.domain ≡ as_row rows.domain
+  pub elem : own.elem ≡ rows.elem
+  pub cut : IsCutOf own.term rows.elem (as_row rows.domain) rows before after

@@ -6,7 +6,7 @@ ghost use Rattle.shape_check.specs.Typed.{node_of};
 ghost use Rattle.pass_plan.specs.Tree.{AtLeaf};
 ghost use Rattle.pass_plan.specs.declared.pass.PassKind.TheVariants as kinds;
 ghost use Rattle.expr_split.specs.Cuts.{UnderMap, Inside, is_reduction as has_reduction, is_name as has_name, under as under_map, no_tree, as_row as as_one_row, own_of, seen_of};
-ghost use Rattle.expr_split.specs.Terms.{term_of, IsOwn, IsSeen, IsCutOf};
+ghost use Rattle.expr_split.specs.Terms.{term_of, IsOwn, IsSeen, IsCutOf, IsColumnOf};
 
 use crate::term::{Term, cast, copy, normalised, one, select, two};
 use pass_plan::{Leaf, PassKind};
@@ -242,8 +242,7 @@ fn reduction_of(fold: Fold, domain: Shape, elem: Elem, term: Term) -> Own
 /// The pass of these rows' reductions goes last; the root of the pass that reduces what it makes, as one row.
 fn column(alloc: Global, rows: Own, plan: &mut Plan) -> Result<Own, AllocError>
     requires { plan.old.next + 1 < 2 ^ 32 }
-    ensures same { IfOk result (λ o. (o.kind ≡ rows.kind) × (o.domain ≡ as_one_row rows.domain) × (o.elem ≡ rows.elem)) }
-    ensures cut { IfOk result (λ o. IsCutOf o.term rows.elem (as_one_row rows.domain) rows plan.old plan.new) }
+    ensures { IfOk result (λ o. IsColumnOf o rows plan.old plan.new) }
 {
     let (kind, elem) = (rows.kind, rows.elem);
     let domain = as_row(rows.domain);

@@ -123,8 +123,16 @@ fn checked_program(alloc: Global, a: Name, b: Name, y: Name) -> Option<Checked>
     ensures { IfSome result (λ checked. (inputs : Pairs) →
         HasInput inputs a Elem.I8 (record { rows = 1; cols = 3 }) → FitInputs (program_of checked) inputs) }
 {
-    let program = program(alloc, a, b, y).ok()?;
-    check(alloc, program).ok()
+    let program = match program(alloc, a, b, y) {
+        Ok(program) => program,
+        Err(_) => {
+            return None;
+        }
+    };
+    match check(alloc, program) {
+        Ok(checked) => Some(checked),
+        Err(_) => None,
+    }
 }
 
 /// The values of the output.

@@ -92,7 +92,7 @@ fn real_files_may_be_longer_than_a_piece(rt: HostRuntime) -> Result<(), Fail> {
     let mut files = HostFiles::new(&rt);
     assert!(rt; saves(&mut files, "long", &long));
     assert!(rt; loads(&mut files, alloc, "long", 200_000, &long));
-    assert!(rt; loads(&mut files, alloc, "long", 99_999, &long[..100_000]));
+    assert!(rt; files.load(alloc, "long", 99_999)?.len() == 100_000);
     Ok(())
 }
 

@@ -83,13 +83,19 @@ fn table(alloc: Global, text: &str) -> Option<Vec<Entry>> {
     Some(entries)
 }
 
+fn misfit_line(alloc: Global, fault: &FitFault) -> Option<String> {
+    match fault {
+        FitFault::Missing { name } => format!(in alloc; "missing {}", text_of(name)).ok(),
+        FitFault::TypeWrong { name } => format!(in alloc; "type {}", text_of(name)).ok(),
+        FitFault::ShapeWrong { name } => format!(in alloc; "shape {}", text_of(name)).ok(),
+        FitFault::Extra { name } => format!(in alloc; "extra {}", text_of(name)).ok(),
+    }
+}
+
 fn misfit(alloc: Global, arrays: &Arrays, entries: &[Entry]) -> Option<String> {
     match fit(arrays, entries) {
         Ok(()) => String::from_str(alloc, "fit").ok(),
-        Err(FitFault::Missing { name }) => format!(in alloc; "missing {}", text_of(&name)).ok(),
-        Err(FitFault::TypeWrong { name }) => format!(in alloc; "type {}", text_of(&name)).ok(),
-        Err(FitFault::ShapeWrong { name }) => format!(in alloc; "shape {}", text_of(&name)).ok(),
-        Err(FitFault::Extra { name }) => format!(in alloc; "extra {}", text_of(&name)).ok(),
+        Err(fault) => misfit_line(alloc, &fault),
     }
 }
 

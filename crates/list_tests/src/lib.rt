@@ -2,22 +2,10 @@
 //!
 //! Each small program is read, checked, split and made a list, in a scratchpad of its need and in larger ones. The host's
 //! code of the split passes on that list. The units do the list one work after another, on 1 to 4 lanes. The outputs'
-//! bytes are those of the program's meaning, and no pair of the list's works races. The other modules have the tests of
-//! one crate each. The crate offers nothing.
+//! bytes are those of the program's meaning, and no pair of the list's works races. `splits` has the passes of programs
+//! that were worked out by hand, `programs` and `transfers` the host's programs. The crate offers nothing.
 #![tactic(auto)]
 
-#[cfg(test)]
-mod best_orders;
-#[cfg(test)]
-mod instructions;
-#[cfg(test)]
-mod laws;
-#[cfg(test)]
-mod lists;
-#[cfg(test)]
-mod orders;
-#[cfg(test)]
-mod pieces;
 #[cfg(test)]
 mod programs;
 #[cfg(test)]
@@ -25,8 +13,4 @@ mod splits;
 #[cfg(test)]
 mod tests;
 #[cfg(test)]
-mod tiles;
-#[cfg(test)]
 mod transfers;
-#[cfg(test)]
-mod trees;

@@ -1,6 +1,7 @@
 //! Runs of an axis by expressions (`specs/Axis`). All is counted in elements.
 ghost use Rattle.std.specs.Prelude.{◌≡◌, IfOk};
 ghost use Rattle.host_programs.specs.Expr as plain;
+ghost use Rattle.host_programs.specs.Shown.{expr_of};
 ghost use Rattle.transfer_programs.specs.Axis as axes;
 ghost use Rattle.transfer_builder.specs.Shown.{small_of, run_of};
 

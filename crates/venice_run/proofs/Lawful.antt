@@ -61,7 +61,7 @@ use Rattle.venice_run.specs.Commands.{stages_of, answer_to}
 use Rattle.venice_run.specs.Disasm.{disasm}
 use Rattle.venice_run.specs.Endings.{parse_ending, check_ending, array_ending, grant_ending, image_ending, assembler_ending, machine_ending}
 use Rattle.venice_run.specs.Eval.{eval}
-use Rattle.venice_run.specs.Exec.{prints_run, exec}
+use Rattle.venice_run.specs.Exec.{Fed, prints_run, fed_image, exec}
 use Rattle.venice_run.specs.Explain.{explain}
 use Rattle.venice_run.specs.Grants.{ReadsGrants, grants_in, grants_under}
 use Rattle.venice_run.specs.Images.{image_in, image_under}
@@ -145,7 +145,8 @@ pub load_lawful : (files : Behaviour) (name : List ℕ) (limit : ℕ) → Lawful
 unfolding text_under
 load_lawful files name limit = record { once = once; fails = λ may. record { name = name; fails = may } }
   where
-    once : Settled files → (a b : Result (Option (List ℕ)) Ending) → text_under files name limit a → text_under files name limit b → IsPlain a → IsPlain b → a ≡ b
+    once : Settled files → (a b : Result (Option (List ℕ)) Ending) → text_under files name limit a → text_under files name limit b → IsPlain a → IsPlain b
+        → a ≡ b
     once sure (Ok (Some a)) (Ok (Some b)) p q pa pb = ap (λ (t : List ℕ). Ok (Some t)) (some_is a b (sure.shows name (Some a) (Some b) p.0 q.0))
     once sure (Ok (Some a)) (Ok None) p q pa pb =
         let same : a ≡ q.0 = some_is a q.0 (sure.shows name (Some a) (Some q.0) p.0 q.1) in absurd (omega (arith, p.1, q.2, ap length same))
@@ -214,7 +215,9 @@ prints_lawful files text = gives_lawful files (λ (answer : Answer). answer ≡ 
 
 saves_lawful : (files : Behaviour) (name bytes text : List ℕ) → Lawful files (saves_and_prints name bytes text)
 saves_lawful files name bytes text =
-    gives_lawful files (λ (answer : Answer). answer ≡ record { save = Some (record { name = name; bytes = bytes }); text = text; stop = None }) (λ sure a b p q. p ∙ sym q)
+    gives_lawful files
+    (λ (answer : Answer). answer ≡ record { save = Some (record { name = name; bytes = bytes }); text = text; stop = None })
+    (λ sure a b p q. p ∙ sym q)
 
 -- ---- the stages that commands share
 
@@ -227,7 +230,8 @@ record HasOne {A E : Type 0} (ending_of : E → Ending) (is : Result A E → Typ
 plain_as : (A : Type 0) (e f : Ending) → e ≡ f → IsPlain {A = A} (Err e) → IsPlain {A = A} (Err f)
 plain_as A e f same plain = subst (λ (x : Ending). IsPlain {A = A} (Err x)) same plain
 
-step_lawful : {A E : Type 0} (files : Behaviour) (ending_of : E → Ending) (is : Result A E → Type 0) → (Settled files → HasOne ending_of is) → ((f : E) → Failed File ≡ ending_of f → ⊥) → Lawful files (step ending_of is)
+step_lawful : {A E : Type 0} (files : Behaviour) (ending_of : E → Ending) (is : Result A E → Type 0) → (Settled files → HasOne ending_of is)
+    → ((f : E) → Failed File ≡ ending_of f → ⊥) → Lawful files (step ending_of is)
 step_lawful {A} {E} files ending_of is one no_file = record { once = once; fails = λ p. absurd (no_file p.0 p.2) }
   where
     once : Settled files → (a b : Result A Ending) → step ending_of is a → step ending_of is b → IsPlain a → IsPlain b → a ≡ b
@@ -248,7 +252,8 @@ unfolding loads
 loads_lawful files name kind = then_lawful (load_lawful files name (limit_of kind)) (λ text. whole_lawful files kind text)
 
 -- the program of a text
-parse_refused : (A : Type 0) (text : List ℕ) (fault : ParseFault) → syntax.IsAnswered text fault → IsPlain {A = A} (Err (parse_ending fault)) → syntax.IsRefused text fault
+parse_refused : (A : Type 0) (text : List ℕ) (fault : ParseFault) → syntax.IsAnswered text fault → IsPlain {A = A} (Err (parse_ending fault))
+    → syntax.IsRefused text fault
 parse_refused A text parse_fault.Memory is plain = absurd plain
 parse_refused A text fault is plain = is
 
@@ -259,7 +264,8 @@ parses_one files text sure = record {
   faults = λ f g p q pf pg. one_refusal text f g (parse_refused Program text f p pf) (parse_refused Program text g q pg);
 }
 
-check_refused : (A : Type 0) (stmts : List Stmt) (fault : CheckFault) → rules.IsAnswered stmts fault → IsPlain {A = A} (Err (check_ending fault)) → rules.IsFirstFault stmts fault
+check_refused : (A : Type 0) (stmts : List Stmt) (fault : CheckFault) → rules.IsAnswered stmts fault → IsPlain {A = A} (Err (check_ending fault))
+    → rules.IsFirstFault stmts fault
 check_refused A stmts check_fault.Memory is plain = absurd plain
 check_refused A stmts fault is plain = is
 
@@ -281,7 +287,8 @@ unfolding program_under
 program_lawful files name = then_lawful (loads_lawful files name _) (λ text. program_in_lawful files text)
 
 -- the inputs of a program
-array_refused : (A : Type 0) (text : List ℕ) (fault : ArrayFault) → files_faults.IsAnswered text fault → IsPlain {A = A} (Err (array_ending fault)) → files_faults.IsRefused text fault
+array_refused : (A : Type 0) (text : List ℕ) (fault : ArrayFault) → files_faults.IsAnswered text fault → IsPlain {A = A} (Err (array_ending fault))
+    → files_faults.IsRefused text fault
 array_refused A text array_fault.Memory is plain = absurd plain
 array_refused A text fault is plain = is
 
@@ -330,7 +337,8 @@ loads_one files bytes sure = record {
   faults = faults;
 }
   where
-    faults : (f g : ImageFault) → IsLoading bytes (Err f) → IsLoading bytes (Err g) → IsPlain {A = ImageContents} (Err (image_ending f)) → IsPlain {A = ImageContents} (Err (image_ending g)) → f ≡ g
+    faults : (f g : ImageFault) → IsLoading bytes (Err f) → IsLoading bytes (Err g) → IsPlain {A = ImageContents} (Err (image_ending f))
+        → IsPlain {A = ImageContents} (Err (image_ending g)) → f ≡ g
     faults f g p q pf pg =
         elim p.fault [
           | inl memory ↦ absurd (image_plain ImageContents f memory pf)
@@ -349,7 +357,8 @@ unfolding image_under
 image_lawful files name = then_lawful (loads_lawful files name _) (λ bytes. image_in_lawful files bytes)
 
 -- the grants of a text
-grants_refused : (A : Type 0) (text : List ℕ) (fault : GrantFault) → grant_lists.IsAnswered text fault → IsPlain {A = A} (Err (grant_ending fault)) → grant_lists.IsRefused text fault
+grants_refused : (A : Type 0) (text : List ℕ) (fault : GrantFault) → grant_lists.IsAnswered text fault → IsPlain {A = A} (Err (grant_ending fault))
+    → grant_lists.IsRefused text fault
 grants_refused A text grant_fault.Memory is plain = absurd plain
 grants_refused A text fault is plain = is
 
@@ -370,7 +379,8 @@ grants_lawful files None = record { once = λ sure a b p q pa pb. p ∙ sym q; f
 grants_lawful files (Some name) = then_lawful (loads_lawful files name _) (λ text. grants_in_lawful files text)
 
 -- the image of a text
-text_refused : (A : Type 0) (text : List ℕ) (fault : AsmFault) → texts.IsAnswered text fault → IsPlain {A = A} (Err (assembler_ending fault)) → texts.IsRefused text fault
+text_refused : (A : Type 0) (text : List ℕ) (fault : AsmFault) → texts.IsAnswered text fault → IsPlain {A = A} (Err (assembler_ending fault))
+    → texts.IsRefused text fault
 text_refused A text asm_fault.Memory is plain = absurd plain
 text_refused A text fault is plain = is
 
@@ -433,13 +443,20 @@ run_lawful files program inputs spad =
     then_lawful (room_lawful files (addition_need addition) spad) (λ _.
     then_lawful (inputs_lawful files inputs (input_table checked)) (λ arrays. prints_lawful files _))))
 
-exec_lawful : (files : Behaviour) (image inputs : List ℕ) (resources : Resources) (grants : Option (List ℕ)) → Lawful files (exec files image inputs resources grants)
+fed_lawful : (files : Behaviour) (image inputs : List ℕ) (spad : ℕ) → Lawful files (fed_image files image inputs spad)
+unfolding fed_image
+fed_lawful files image inputs spad =
+    then_lawful (image_lawful files image) (λ loaded.
+    then_lawful (room_lawful files loaded.spad spad) (λ _.
+    then_lawful (inputs_lawful files inputs loaded.arrays) (λ arrays.
+    gives_lawful files (λ (fed : Fed). fed ≡ record { image = loaded; arrays = arrays }) (λ sure a b p q. p ∙ sym q))))
+
+exec_lawful : (files : Behaviour) (image inputs : List ℕ) (resources : Resources) (grants : Option (List ℕ))
+    → Lawful files (exec files image inputs resources grants)
 unfolding exec
 exec_lawful files image inputs resources grants =
-    then_lawful (image_lawful files image) (λ loaded.
-    then_lawful (room_lawful files loaded.spad resources.spad) (λ _.
-    then_lawful (inputs_lawful files inputs loaded.arrays) (λ arrays.
-    then_lawful (grants_lawful files grants) (λ list. prints_run_lawful files loaded.arrays _))))
+    then_lawful (fed_lawful files image inputs resources.spad) (λ fed.
+    then_lawful (grants_lawful files grants) (λ list. prints_run_lawful files fed.image.arrays _))
 
 asm_lawful : (files : Behaviour) (text image : List ℕ) → Lawful files (asm files text image)
 unfolding asm
@@ -469,7 +486,8 @@ one_name None (Some y) e = absurd cc
 one_name (Some x) None e = absurd cc
 
 -- numbers whose decimals are the same
-same_resources : (r s : Resources) → AreInRange r → AreInRange s → decimal r.lanes ≡ decimal s.lanes → decimal r.spad ≡ decimal s.spad → decimal r.budget ≡ decimal s.budget → r ≡ s
+same_resources : (r s : Resources) → AreInRange r → AreInRange s → decimal r.lanes ≡ decimal s.lanes → decimal r.spad ≡ decimal s.spad
+    → decimal r.budget ≡ decimal s.budget → r ≡ s
 same_resources r s in_r in_s lanes spads budgets =
     let lanes_are : r.lanes ≡ s.lanes = decimal_injective r.lanes s.lanes (omega (arith, in_r.lanes.1)) (omega (arith, in_s.lanes.1)) lanes in
     let spads_are : r.spad ≡ s.spad = decimal_injective r.spad s.spad (omega (arith, in_r.spad.1)) (omega (arith, in_s.spad.1)) spads in
@@ -477,7 +495,8 @@ same_resources r s in_r in_s lanes spads budgets =
     λ i. record { lanes = lanes_are i; spad = spads_are i; budget = budgets_are i }
 
 -- words spell one request, but for where its names lie in memory
-same_stages : (files : Behaviour) (words : List (List ℕ)) (r s : Request) → Spells words r → Spells words s → (b : Result Answer Ending) → stages_of files s b → stages_of files r b
+same_stages : (files : Behaviour) (words : List (List ℕ)) (r s : Request) → Spells words r → Spells words s → (b : Result Answer Ending) → stages_of files s b
+    → stages_of files r b
 same_stages files words (Run p i m l n) (Run q j k o t) spells spells_s b h =
     let e : words_of (Run p i m l n) ≡ words_of (Run q j k o t) = sym spells.words_are ∙ spells_s.words_are in
     let programs : p.now ≡ q.now = cc in

@@ -9,6 +9,7 @@ pub mod Cuts
 pub mod Taking
 pub mod Requests
 pub mod Stages
+pub mod Ready
 pub mod Fitted
 pub mod Listing
 pub mod Plans

@@ -1,5 +1,5 @@
 -- The command `exec`: it runs an image, and prints the outputs as memory holds them at `halt`, and the counts.
-use Rattle.std.specs.Prelude.{ℕ, List, [], ◌∷◌, ◌++◌, Option, codes}
+use Rattle.std.specs.Prelude.{◌≡◌, ℕ, List, [], ◌∷◌, ◌++◌, Option, codes}
 use Rattle.ven_base.specs.declared.entry.Entry.{Entry}
 use Rattle.ven_base.specs.Pairs.{Pairs}
 use Rattle.ven_io.specs.Files.{Behaviour}
@@ -18,7 +18,7 @@ use Rattle.venice_run.specs.Images.{image_under}
 use Rattle.venice_run.specs.Inputs.{inputs_under}
 use Rattle.venice_run.specs.Line.{Number, spaced}
 use Rattle.venice_run.specs.Plan.{has_room}
-use Rattle.venice_run.specs.Stage.{Stage, ◌>>=◌, ◌>>◌, step}
+use Rattle.venice_run.specs.Stage.{Stage, ◌>>=◌, ◌>>◌, step, gives}
 
 -- the state in which the run of an image on these arrays ends, under these grants
 abbrev pub end_of_run : ImageContents → Resources → (arrays : Pairs) → (grants : List ℕ) → State
@@ -40,10 +40,21 @@ prints_run table state = do
   counts ← step machine_ending (RunEnds state)
   prints (run_text table state)
 
+-- an image, and arrays that fit its inputs
+pub record Fed : Type 0 where
+  pub image : ImageContents
+  pub arrays : Pairs
+
+-- those under the names, where a scratchpad of so many bytes holds what the image needs
+unfoldable pub fed_image : Behaviour → (image inputs : List ℕ) → ℕ → Stage Fed
+fed_image files image inputs spad = do
+  loaded ← image_under files image
+  has_room loaded.spad spad
+  arrays ← inputs_under files inputs loaded.arrays
+  gives (λ fed. fed ≡ record { image = loaded; arrays = arrays })
+
 unfoldable pub exec : Behaviour → (image inputs : List ℕ) → Resources → (grants : Option (List ℕ)) → Stage Answer
 exec files image inputs resources grants = do
-  loaded ← image_under files image
-  has_room loaded.spad resources.spad
-  arrays ← inputs_under files inputs loaded.arrays
+  fed ← fed_image files image inputs resources.spad
   list ← grants_under files grants
-  prints_run loaded.arrays (end_of_run loaded resources arrays list)
+  prints_run fed.image.arrays (end_of_run fed.image resources fed.arrays list)

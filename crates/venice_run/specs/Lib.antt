@@ -17,6 +17,7 @@ pub mod Eval
 pub mod Check
 pub mod Explain
 pub mod Exec
+pub mod Ready
 pub mod Asm
 pub mod Disasm
 pub mod Words

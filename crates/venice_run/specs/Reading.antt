@@ -1,6 +1,7 @@
 -- What the commands load.
 use Rattle.std.specs.Prelude.{◌≡◌, ℕ, ◌<◌, ◌≤◌, List, length, Option, Some, None, Ok, Err}
 use Rattle.ven_io.specs.Files.{Behaviour}
+use Rattle.image_loader.specs.Table.{file_limit}
 use Rattle.venice_run.specs.declared.ending.Ending.TheVariants.{Refused, Failed}
 use Rattle.venice_run.specs.declared.ending.Fault.TheVariants.{File, Memory}
 use Rattle.venice_run.specs.declared.refusal.Kind.{Kind}
@@ -8,12 +9,9 @@ use Rattle.venice_run.specs.declared.refusal.Kind.TheVariants as kind
 use Rattle.venice_run.specs.declared.refusal.Refusal.TheVariants.{FileMissing, TooLong}
 use Rattle.venice_run.specs.Stage.{Stage, ◌>>=◌, refuses}
 
--- the greatest length of a program's text, and of every other text and image, in bytes
+-- the greatest length of a program's text, in bytes; that of every other text is an image's
 abbrev pub program_limit : ℕ
 program_limit = 65536
-
-abbrev pub file_limit : ℕ
-file_limit = 67108864
 
 abbrev pub limit_of : Kind → ℕ
 limit_of kind.Program = program_limit

@@ -3,6 +3,7 @@ use Rattle.std.specs.Prelude.{◌≡◌, ℕ, ◌≤◌, List, [], ◌∷◌, ma
 use Rattle.std.specs.Option.{option_map, option_to_list, is_some}
 use Rattle.std.specs.String.{string_bytes}
 use Rattle.std.specs.declared.alloc.Global.{Global}
+use Rattle.ven_base.specs.Limits.{cell_limit}
 use Rattle.venice_run.specs.declared.command.Command.{Command}
 use Rattle.venice_run.specs.declared.command.Command.TheVariants as command
 use Rattle.venice_run.specs.declared.request.Request.{Request}
@@ -14,12 +15,9 @@ use Rattle.venice_machine.specs.Run.{step_limit}
 abbrev pub texts_of : List (String Global) → List (List ℕ)
 texts_of words = map string_bytes words
 
--- the greatest number of lanes of a machine, and the greatest size of a scratchpad in bytes
+-- the greatest number of lanes of a machine
 abbrev pub most_lanes : ℕ
 most_lanes = 4
-
-abbrev pub most_scratchpad : ℕ
-most_scratchpad = 1048576
 
 -- from 1 to the greatest
 abbrev pub IsUpTo : ℕ → ℕ → Type 0
@@ -28,7 +26,7 @@ IsUpTo most n = (1 ≤ n) × (n ≤ most)
 -- the numbers of what a run may use, in range
 pub record AreInRange (resources : Resources) : Type 0 where
   pub lanes : IsUpTo most_lanes resources.lanes
-  pub spad : IsUpTo most_scratchpad resources.spad
+  pub spad : IsUpTo cell_limit resources.spad
   pub budget : IsUpTo step_limit resources.budget
 
 -- the words of each request: names of files as they are, numbers as they are printed
@@ -46,8 +44,8 @@ words_of (Disasm image) = codes "disasm" ∷ image.now ∷ []
 
 -- the numbers of each request that are in range
 abbrev pub IsInRange : Request → Type 0
-IsInRange (Run program inputs image lanes spad) = IsUpTo most_lanes lanes × IsUpTo most_scratchpad spad
-IsInRange (Check program spad) = IsUpTo most_scratchpad spad
+IsInRange (Run program inputs image lanes spad) = IsUpTo most_lanes lanes × IsUpTo cell_limit spad
+IsInRange (Check program spad) = IsUpTo cell_limit spad
 IsInRange (Exec image inputs resources grants) = AreInRange resources
 IsInRange _ = Unit {0}
 

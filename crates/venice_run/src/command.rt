@@ -7,7 +7,7 @@ use crate::request::request_of;
 
 /// What the words of the command line ask for ("The command line" in docs/FORMATS.md). File names are the words at
 /// their places.
-#[derive(Clone, Copy, Debug, PartialEq, Eq)]
+#[derive(Clone, Copy)]
 pub enum Command {
     /// `run PROGRAM INPUTS IMAGE LANES SPAD`: 1 to 4 lanes, a scratchpad of 1 to 1,048,576 bytes.
     Run {

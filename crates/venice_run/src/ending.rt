@@ -14,7 +14,7 @@ use venice_asm::AsmFault;
 use venice_machine::{GrantFault, Stop};
 
 /// A fault of the outside.
-#[derive(Clone, Copy, Debug, PartialEq, Eq)]
+#[derive(Clone, Copy)]
 pub enum Fault {
     /// A load failed.
     File,
@@ -23,7 +23,7 @@ pub enum Fault {
 }
 
 /// A command ends without its output: by a refusal, or by a fault of the outside.
-#[derive(Clone, Copy, Debug, PartialEq, Eq)]
+#[derive(Clone, Copy)]
 pub enum Ending {
     /// The command's first refusal.
     Refused(Refusal),

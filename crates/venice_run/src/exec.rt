@@ -12,6 +12,7 @@ ghost use Rattle.venice_machine.specs.State.{State};
 ghost use Rattle.venice_run.specs.Answer.{answer_of};
 ghost use Rattle.venice_run.specs.Exec.{counts_text, prints_run, run_text as run_text_lem, exec as exec_lem};
 ghost use Rattle.venice_run.specs.Inputs.{fitting};
+ghost use Rattle.venice_run.specs.Ready.{readies};
 ghost use Rattle.venice_run.specs.Stage.{as_stage};
 ghost use Rattle.venice_run.specs.Words.{AreInRange};
 
@@ -46,12 +47,28 @@ pub(crate) fn exec<'a, F: Files>(
         (option_map (λ name. name.now) grants.entry) (as_stage answer_of result) }
     ensures only { OnlyLoads (F.state files.old) (F.state files.new) (IsErrOf result (Ending.Failed Fault.File)) }
 {
+    let machine = fed_machine(alloc, files, image, inputs, resources)?;
+    let list = load_grants(alloc, files, grants)?;
+    print_run(alloc, machine, &list, resources.budget)
+}
+
+/// The machine of IMAGE with INPUTS in memory.
+fn fed_machine<F: Files>(
+    alloc: Global,
+    files: &mut F,
+    image: &str,
+    inputs: &str,
+    resources: Resources,
+) -> Result<Machine, Ending>
+    requires { AreInRange resources }
+    ensures answer { readies (F.behaviour (F.state files.old).content) image.now inputs.now resources
+        (as_stage (λ machine. machine) result) }
+    ensures only { OnlyLoads (F.state files.old) (F.state files.new) (IsErrOf result (Ending.Failed Fault.File)) }
+{
     let loaded = load_image(alloc, files, image)?;
     need_room(u64::from(loaded.spad), resources.spad)?;
     let arrays = load_arrays(alloc, files, inputs)?;
-    let machine = make_machine(alloc, loaded, resources, &arrays)?;
-    let list = load_grants(alloc, files, grants)?;
-    print_run(alloc, machine, &list, resources.budget)
+    make_machine(alloc, loaded, resources, &arrays)
 }
 
 /// The machine of the image with these arrays in memory, where they fit its inputs.

@@ -73,6 +73,3 @@ pub use laws::{lines_are_the_text, one_answer, promise_is_complete};
 pub use refusal::{Kind, Refusal, Shortage};
 pub use tile::{one_tile, one_tile_adds};
 pub use top::venice;
-
-#[cfg(test)]
-mod tests;

@@ -3,19 +3,17 @@
 ghost use Rattle.std.specs.Prelude.{◌≡◌, ◌≤◌, length, IfOk, IsErrOf};
 ghost use Rattle.std.specs.Option.{option_map};
 ghost use Rattle.ven_io.specs.Files.{OnlyLoads};
-ghost use Rattle.venice_run.specs.Reading.{text_under, loads, limit_of, program_limit, file_limit};
+ghost use Rattle.venice_run.specs.Reading.{text_under, loads, limit_of};
 ghost use Rattle.venice_run.specs.Stage.{as_stage};
 
 use crate::ending::{Ending, Fault};
 use crate::refusal::{Kind, Refusal};
+use image_loader::FILE_LIMIT;
 use std::alloc::Global;
 use ven_io::{Files, LoadFault};
 
-/// The greatest length of a program's text, in bytes.
-pub(crate) const PROGRAM_LIMIT: u32 = 65_536;
-
-/// The greatest length of every other text and of an image, in bytes.
-const FILE_LIMIT: u32 = 67_108_864;
+/// The greatest length of a program's text, in bytes. Every other text may be as long as an image.
+const PROGRAM_LIMIT: u32 = 65_536;
 
 impl Kind {
     /// The greatest length of such a text, in bytes.

@@ -11,25 +11,32 @@ use venice_asm::AsmFault;
 use venice_machine::{GrantFault, Stop};
 
 /// The kinds of texts and files that commands read. Each has a limit on its length, a word and a status.
-#[derive(Clone, Copy, Debug, PartialEq, Eq)]
+#[derive(Clone, Copy)]
 pub enum Kind {
+    /// A program of the array language.
     Program,
+    /// An array file.
     Inputs,
+    /// A list of grants.
     Grants,
+    /// An image.
     Image,
+    /// An assembler text.
     Text,
 }
 
 /// A scratchpad that is too small; both numbers in bytes.
-#[derive(Clone, Copy, Debug, PartialEq, Eq)]
+#[derive(Clone, Copy)]
 pub struct Shortage {
+    /// What the program or the image needs.
     pub need: u64,
+    /// What the words of the command line offer.
     pub have: u32,
 }
 
 /// Why a command is refused: one variant a stage. Each prints one line, `error: ` and its words
 /// ("Statuses and lines" in docs/FORMATS.md).
-#[derive(Clone, Copy, Debug, PartialEq, Eq)]
+#[derive(Clone, Copy)]
 pub enum Refusal {
     /// The words of the command line are of no command's form.
     Usage,
@@ -60,6 +67,7 @@ pub enum Refusal {
 }
 
 impl Kind {
+    /// The word that stands for the kind in a refusal's line.
     pub(crate) fn word(self) -> &'static [u8]
         ensures { result.now ≡ kind_word self }
     {
@@ -72,6 +80,7 @@ impl Kind {
         }
     }
 
+    /// The status where such a text is too long.
     fn status(self) -> u8
         ensures { result ≡ kind_status self }
     {

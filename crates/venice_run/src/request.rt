@@ -6,12 +6,10 @@ ghost use Rattle.venice_run.specs.Requests.{IsRun, IsEval, IsCheck, IsExplain, I
 
 use crate::command::Command;
 use itoa::Buffer;
+use ven_base::CELL_LIMIT;
 
 /// The greatest number of lanes of a machine.
 const MOST_LANES: u32 = 4;
-
-/// The greatest size of a scratchpad, in bytes.
-const MOST_SCRATCHPAD: u32 = 1_048_576;
 
 /// The most steps that a run may be allowed.
 const MOST_STEPS: u64 = 1_099_511_627_776;
@@ -24,9 +22,11 @@ pub(crate) struct Resources {
     pub budget: u64,
 }
 
-/// A command with its names and numbers.
+/// A command with its names and numbers: what the words of the command line ask for. Names of files stand as the words
+/// have them; `lanes`, `spad` and `budget` are in the range of the command line.
 #[derive(Clone, Copy)]
 pub(crate) enum Request<'a> {
+    /// `run PROGRAM INPUTS IMAGE LANES SPAD`.
     Run {
         program: &'a str,
         inputs: &'a str,
@@ -34,27 +34,33 @@ pub(crate) enum Request<'a> {
         lanes: u32,
         spad: u32,
     },
+    /// `eval PROGRAM INPUTS`.
     Eval {
         program: &'a str,
         inputs: &'a str,
     },
+    /// `check PROGRAM SPAD`.
     Check {
         program: &'a str,
         spad: u32,
     },
+    /// `explain PROGRAM`.
     Explain {
         program: &'a str,
     },
+    /// `exec IMAGE INPUTS LANES SPAD BUDGET [GRANTS]`.
     Exec {
         image: &'a str,
         inputs: &'a str,
         resources: Resources,
         grants: Option<&'a str>,
     },
+    /// `asm TEXT IMAGE`.
     Asm {
         text: &'a str,
         image: &'a str,
     },
+    /// `disasm IMAGE`.
     Disasm {
         image: &'a str,
     },
@@ -126,7 +132,7 @@ fn run_request(words: &[String]) -> Option<Request<'_>>
         return None;
     }
     let lanes = number_up_to(MOST_LANES, lanes)?;
-    let spad = number_up_to(MOST_SCRATCHPAD, spad)?;
+    let spad = number_up_to(CELL_LIMIT, spad)?;
     Some(Request::Run {
         program,
         inputs,
@@ -159,7 +165,7 @@ fn check_request(words: &[String]) -> Option<Request<'_>>
     if word.as_str() != "check" {
         return None;
     }
-    let spad = number_up_to(MOST_SCRATCHPAD, spad)?;
+    let spad = number_up_to(CELL_LIMIT, spad)?;
     Some(Request::Check { program, spad })
 }
 
@@ -248,7 +254,7 @@ fn read_resources(lanes: &str, spad: &str, budget: &str) -> Option<Resources>
         (SpellResources lanes.now spad.now budget.now) }
 {
     let lanes = number_up_to(MOST_LANES, lanes)?;
-    let spad = number_up_to(MOST_SCRATCHPAD, spad)?;
+    let spad = number_up_to(CELL_LIMIT, spad)?;
     let budget = long_number_up_to(MOST_STEPS, budget)?;
     Some(Resources {
         lanes,

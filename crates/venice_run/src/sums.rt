@@ -49,18 +49,3 @@ fn numbers(alloc: Global, bytes: &[u8]) -> Result<Vec<i64>, AllocError>
 {
     bytes.iter().map(|byte| i64::from(*byte)).collect(alloc)
 }
-
-#[cfg(test)]
-mod tests {
-    use super::*;
-    use std::test::Fail;
-
-    #[test]
-    fn sums_wrap_as_worked_out_by_hand(rt: HostRuntime) -> Result<(), Fail> {
-        let sums = sums_by_tile(rt.alloc(), &[1, 2, 3, 250], &[4, 5, 6, 10])?;
-        assert_eq!(rt; sums.as_slice(), [5, 7, 9, 4].as_slice());
-        let sums = sums_by_tile(rt.alloc(), &[255, 0, 128, 200, 7], &[1, 0, 128, 99, 8])?;
-        assert_eq!(rt; sums.as_slice(), [0, 0, 0, 43, 15].as_slice());
-        Ok(())
-    }
-}

@@ -35,7 +35,7 @@ const MEMORY_LINE: &[u8] = b"error: memory\n";
 
 /// What a call means to say: an answer, why there is none, or that its save failed.
 #[derive(Drop)]
-pub(crate) enum Outcome<'a> {
+enum Outcome<'a> {
     Done(Answer<'a>),
     Stopped(Ending),
     NotSaved,
@@ -103,7 +103,7 @@ fn comes_to<'a, F: Files>(
 }
 
 /// Saves what the answer asks for.
-pub(crate) fn save_answer<'a, F: Files>(
+fn save_answer<'a, F: Files>(
     files: &mut F,
     answer: Result<Answer<'a>, Ending>,
 ) -> Outcome<'a>
@@ -135,7 +135,7 @@ fn make_save<F: Files>(files: &mut F, save: &Option<Save<'_>>) -> Result<(), Out
 }
 
 /// Puts the answer's lines, or the line of why there is none.
-pub(crate) fn say<S: Sink>(alloc: Global, outcome: Outcome<'_>, out: &mut S) -> u8
+fn say<S: Sink>(alloc: Global, outcome: Outcome<'_>, out: &mut S) -> u8
     ensures { SaysOutcome (S.state out.old) (S.state out.new) (outcome_of outcome.entry) result }
 {
     match outcome {

@@ -6,7 +6,7 @@ returns g c = λ content shows words first second comes comes_too plain plain_to
     (answer_lawful (g.F.Files.behaviour content) words).once
     (record {
       shows = shows;
-      programs = c.one_reading.ensures;
+      programs = c.one_reading.ensures.tokens;
       typings = c.check_laws.ensures.one_typing;
       first_faults = c.check_laws.ensures.one_first_fault;
       no_fault = c.check_laws.ensures.no_fault;

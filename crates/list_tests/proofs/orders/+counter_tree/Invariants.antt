@@ -1,4 +1,0 @@
-use Rattle.list_tests.proofs.orders.+counter_tree.Given as goal
-
-abbrev pub decreases-counter_tree : goal.decreases-counter_tree
-decreases-counter_tree l = l.height

@@ -1,4 +1,0 @@
-use Rattle.list_tests.proofs.trees.+full.Given as goal
-
-abbrev pub decreases-full : goal.decreases-full
-decreases-full l = l.height
