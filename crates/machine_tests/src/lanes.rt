@@ -322,27 +322,38 @@ const ROWS: [Row; 13] = [
     },
 ];
 
+/// The row's instruction, where the operation has the mode.
+fn instruction_of(row: &Row) -> Option<VecWork> {
+    let (a_scalar, b_scalar) = row.scalars;
+    let kind = VecKind::new(row.op, row.elem, row.from, a_scalar, b_scalar, row.acc)?;
+    Some(instruction(kind, row.vl, 1, row.numbers.0, row.numbers.1))
+}
+
+/// What the row's instruction leaves at the destination, on so many lanes.
+fn left_by(alloc: Global, row: &Row, lanes: u32) -> Result<Option<Four>, AllocError>
+    requires some_lanes { 0 < lanes }
+    requires few_lanes { lanes ≤ 4 }
+{
+    let Some(work) = instruction_of(row) else {
+        return Ok(None);
+    };
+    if work.vl == 0 || work.rows == 0 || !lies_below(&work, 48) {
+        return Ok(None);
+    }
+    let mut spad = Spad::new(alloc, 48)?;
+    put(&mut spad, 0, row.a);
+    put(&mut spad, 16, row.b);
+    put(&mut spad, 32, row.before);
+    run(alloc, lanes, work, &mut spad)?;
+    Ok(Some(four(&spad, 32)))
+}
+
 #[test]
 fn instructions_leave_their_results_on_any_lanes(rt: HostRuntime) -> Result<(), Fail> {
     for row in &ROWS {
-        let kind = VecKind::new(
-            row.op,
-            row.elem,
-            row.from,
-            row.scalars.0,
-            row.scalars.1,
-            row.acc,
-        );
-        let kind = kind.expect(&rt, "each row's mode is one of its operation's");
-        let work = instruction(kind, row.vl, 1, row.numbers.0, row.numbers.1);
-        assert!(rt; 0 < work.vl && 0 < work.rows && lies_below(&work, 48));
         for lanes in 1..5 {
-            let mut spad = Spad::new(rt.alloc(), 48)?;
-            put(&mut spad, 0, row.a);
-            put(&mut spad, 16, row.b);
-            put(&mut spad, 32, row.before);
-            run(rt.alloc(), lanes, work, &mut spad)?;
-            assert_eq!(rt; four(&spad, 32), row.after, "{:?} on {lanes} lanes", row.op);
+            let left = left_by(rt.alloc(), row, lanes)?;
+            assert!(rt; left == Some(row.after), "{:?} on {lanes} lanes", row.op);
         }
     }
     Ok(())
@@ -582,12 +593,12 @@ fn is_answered(before: &Spad, after: &Spad, work: &VecWork, row: u32, column: u3
     }
 }
 
-/// Whether an instruction leaves on so many lanes what it gives each element by itself.
-fn is_right(alloc: Global, kind: VecKind, lanes: u32, seed: u32) -> Result<bool, AllocError>
-    requires some_lanes { 0 < lanes }
-    requires few_lanes { lanes ≤ 4 }
+/// Two rows of 19 elements of this kind.
+fn two_rows(kind: VecKind, seed: u32) -> VecWork
+    ensures vl { result.vl ≡ 19 }
+    ensures rows { result.rows ≡ 2 }
 {
-    let work = VecWork {
+    VecWork {
         kind,
         vl: 19,
         rows: 2,
@@ -597,33 +608,53 @@ fn is_right(alloc: Global, kind: VecKind, lanes: u32, seed: u32) -> Result<bool,
         dst_step: 90,
         a_step: 90,
         b_step: 90,
-    };
+    }
+}
+
+/// Whether a row of the destination has what the instruction gives each element by itself.
+fn is_row_answered(before: &Spad, after: &Spad, work: &VecWork, row: u32) -> bool {
+    (0..19).all(|column| is_answered(before, after, work, row, column))
+}
+
+/// Whether a row's element has the sum of what the instruction gives each element.
+fn is_row_added(before: &Spad, after: &Spad, work: &VecWork, row: u32) -> bool {
+    let elem = work.kind.elem;
+    let mut sum = 0i128;
+    for column in 0..19 {
+        sum = sum.wrapping_add(i128::from(answer(before, work, row, column)));
+    }
+    let at = place(work.dst, row, 0, elem);
+    number_at(after, elem, at) == wrap(elem, sum) && flags_at(after, elem, at) == 0
+}
+
+/// Whether an instruction leaves on so many lanes what it gives each element by itself, or their sum.
+fn is_right(alloc: Global, kind: VecKind, lanes: u32, seed: u32) -> Result<bool, AllocError>
+    requires some_lanes { 0 < lanes }
+    requires few_lanes { lanes ≤ 4 }
+{
+    let work = two_rows(kind, seed);
     let before = scattered(alloc, seed)?;
     let mut after = scattered(alloc, seed)?;
     if !lies_below(&work, after.len()) {
         return Ok(false);
     }
     run(alloc, lanes, work, &mut after)?;
-    let mut right = true;
-    for row in 0..2 {
-        let mut sum = 0i128;
-        for column in 0..19 {
-            if kind.acc {
-                sum = sum.wrapping_add(i128::from(answer(&before, &work, row, column)));
-            } else {
-                right &= is_answered(&before, &after, &work, row, column);
-            }
-        }
+    Ok((0..2).all(|row| {
         if kind.acc {
-            let at = place(work.dst, row, 0, kind.elem);
-            let there = (
-                number_at(&after, kind.elem, at),
-                flags_at(&after, kind.elem, at),
-            );
-            right &= there == (wrap(kind.elem, sum), 0);
+            is_row_added(&before, &after, &work, row)
+        } else {
+            is_row_answered(&before, &after, &work, row)
+        }
+    }))
+}
+
+fn is_right_on_any_lanes(alloc: Global, kind: VecKind) -> Result<bool, AllocError> {
+    for lanes in 1..5 {
+        if !is_right(alloc, kind, lanes, 7 + lanes)? {
+            return Ok(false);
         }
     }
-    Ok(right)
+    Ok(true)
 }
 
 #[test]
@@ -635,10 +666,8 @@ fn every_operation_and_type_answers_as_one_element_by_itself(rt: HostRuntime) ->
                     let Some(kind) = VecKind::new(op, elem, from, a_scalar, b_scalar, acc) else {
                         continue;
                     };
-                    for lanes in 1..5 {
-                        let right = is_right(rt.alloc(), kind, lanes, 7 + lanes)?;
-                        assert!(rt; right, "{op:?} {elem:?} {from:?} on {lanes} lanes");
-                    }
+                    let right = is_right_on_any_lanes(rt.alloc(), kind)?;
+                    assert!(rt; right, "{op:?} {elem:?} {from:?}");
                 }
             }
         }
