@@ -20,10 +20,21 @@ fn owned(alloc: Global, words: &[&str]) -> Result<Vec<String>, Fail> {
 fn words_spell_their_command(rt: HostRuntime) -> Result<(), Fail> {
     let words = ["exec", "M", "I", "4", "1048576", "1099511627776", "G"];
     let words = owned(rt.alloc(), &words)?;
-    let Some(Command::Exec { lanes, spad, budget, grants }) = read_words(&words) else {
+    let Some(
+        Command::Exec {
+            lanes,
+            spad,
+            budget,
+            grants,
+        },
+    ) = read_words(&words)
+    else {
         return Err("no command".into());
     };
-    assert_eq!(rt; (lanes, spad, budget, grants), (4, 1_048_576, 1_099_511_627_776, true));
+    assert_eq!(rt;
+        (lanes, spad, budget, grants),
+        (4, 1_048_576, 1_099_511_627_776, true)
+    );
     assert!(rt; read_words(&words[..4]).is_none());
     Ok(())
 }
@@ -32,7 +43,10 @@ fn words_spell_their_command(rt: HostRuntime) -> Result<(), Fail> {
 fn memory_that_ran_out_has_its_status_and_line(rt: HostRuntime) -> Result<(), Fail> {
     let ending = Ending::Failed(Fault::Memory);
     assert_eq!(rt; ending.status(), 10);
-    assert_eq!(rt; ending.line(rt.alloc())?.as_slice(), b"error: memory\n".as_slice());
+    assert_eq!(rt;
+        ending.line(rt.alloc())?.as_slice(),
+        b"error: memory\n".as_slice()
+    );
     Ok(())
 }
 

@@ -15,10 +15,16 @@ use venice_run::{one_tile, venice};
 
 /// An addition, its inputs, an assembler text, its image, and a file that isn't any of these.
 static FILES: [(&str, &[u8]); 5] = [
-    ("P", b"input a u8[1,4];\ninput b u8[1,4];\noutput y = a + b;\n"),
+    (
+        "P",
+        b"input a u8[1,4];\ninput b u8[1,4];\noutput y = a + b;\n",
+    ),
     ("I", b"a u8[1,4]\n1 2 3 250\nb u8[1,4]\n4 5 6 10\n"),
     ("T", b"spad 16\nmemory 0\nhalt\n"),
-    ("H", b"VNC1\x10\0\0\0\0\0\0\0\0\0\0\0\x01\0\0\0\0\0\0\0\0\0\0\0"),
+    (
+        "H",
+        b"VNC1\x10\0\0\0\0\0\0\0\0\0\0\0\x01\0\0\0\0\0\0\0\0\0\0\0",
+    ),
     ("E", b""),
 ];
 
@@ -121,14 +127,24 @@ fn print_issue<R: Print>(rt: &R, issue: &Issue) -> io::Result<()> {
 
 /// The fields of a transfer, in the order of `DmaWork`.
 fn print_transfer<R: Print>(rt: &R, word: &str, work: &DmaWork) -> io::Result<()> {
-    print!(rt; "{word} {} {} {} {}", work.mem, work.spad, work.rows, work.bytes)?;
+    print!(rt;
+        "{word} {} {} {} {}",
+        work.mem, work.spad, work.rows, work.bytes
+    )?;
     println!(rt; " {} {} {}", work.mem_step, work.spad_step, work.tag)
 }
 
 /// The fields of an instruction, in the order of `VecWork`.
 fn print_instruction<R: Print>(rt: &R, work: &VecWork) -> io::Result<()> {
-    let word = if adds_bytes(&work.kind) { "vec add u8 vv" } else { "vec" };
-    print!(rt; "{word} {} {} {} {} {}", work.vl, work.rows, work.dst, work.a, work.b)?;
+    let word = if adds_bytes(&work.kind) {
+        "vec add u8 vv"
+    } else {
+        "vec"
+    };
+    print!(rt;
+        "{word} {} {} {} {} {}",
+        work.vl, work.rows, work.dst, work.a, work.b
+    )?;
     println!(rt; " {} {} {}", work.dst_step, work.a_step, work.b_step)
 }
 

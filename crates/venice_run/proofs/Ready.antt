@@ -32,8 +32,9 @@ module _ (files : Behaviour) (image inputs : List ℕ) (resources : Resources) w
       → IfOk r (λ machine. machine.setup ≡ setup_of loaded resources.lanes) → IfOk r (λ machine. Shows machine (start_state loaded arrays resources.spad))
       → readies files image inputs resources (as_stage (λ machine. machine) r)
   unfolding fed_image inputs_under
-  made loaded arrays is room read (Ok machine) fits setup shows =
-      (record { image = loaded; arrays = arrays },
-      Goes loaded is (Goes tt room (Goes arrays (Goes arrays read fits) refl)),
-      record { setup = setup; shows = shows })
+  made loaded arrays is room read (Ok machine) fits setup shows = (
+    record { image = loaded; arrays = arrays },
+    Goes loaded is (Goes tt room (Goes arrays (Goes arrays read fits) refl)),
+    record { setup = setup; shows = shows },
+  )
   made loaded arrays is room read (Err ending) fits setup shows = Goes loaded is (Goes tt room (Ends ending (Goes arrays read fits) refl))

@@ -103,10 +103,7 @@ fn comes_to<'a, F: Files>(
 }
 
 /// Saves what the answer asks for.
-fn save_answer<'a, F: Files>(
-    files: &mut F,
-    answer: Result<Answer<'a>, Ending>,
-) -> Outcome<'a>
+fn save_answer<'a, F: Files>(files: &mut F, answer: Result<Answer<'a>, Ending>) -> Outcome<'a>
     ensures comes { Comes F.behaviour (F.state files.old).content (F.state files.new).content
         (λ r. r ≡ as_stage answer_of answer.entry) (outcome_of result) }
     ensures only { OnlySaves (F.state files.old) (F.state files.new) (outcome_of result ≡ NotSaved) }
