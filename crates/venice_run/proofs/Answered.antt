@@ -1,25 +1,23 @@
 -- Programs and inputs have one answer: a text is one program or has one first fault, and arrays fit or have one first misfit.
-use Rattle.std.proofs.Common.{◌≡◌, ◌⊎◌, inl, inr, ℕ, ◌+◌, ◌<◌, ◌≤◌, List, [], ◌∷◌, length, get_or, Option, Some, None, Result, Ok, Err, refl, sym, ap, subst, ◌∙◌, arith, Contains}
+use Rattle.std.proofs.Common.{◌≡◌, inl, inr, ℕ, List, [], ◌∷◌, get_or, Option, Some, Result, Ok, refl, sym, ap, subst, ◌∙◌, arith}
 use Rattle.std.specs.Prelude.{slice_get}
 use Rattle.std.specs.Option.{option_map}
 use Rattle.std.proofs.lemmas.Option.{slice_get_within, get_or_from_slice_get}
 use Rattle.ven_base.specs.declared.entry.Entry.{Entry}
 use Rattle.ven_base.specs.First.{IsFirst}
 use Rattle.ven_base.specs.Grid.{Grid}
-use Rattle.ven_base.specs.Pairs.{Pairs, names_of, array_named}
+use Rattle.ven_base.specs.Pairs.{Pairs, names_of}
 use Rattle.ven_io.specs.declared.token.Token.{Token as TextToken}
 use Rattle.ven_io.specs.declared.token.TokenFault.{TokenFault}
 use Rattle.ven_io.specs.declared.token.TokenKind.{TokenKind}
 use Rattle.ven_io.specs.declared.token.TokenKind.TheVariants as kinds
-use Rattle.ven_io.specs.Token.{bytes_of}
-use Rattle.ven_io.proofs.Reached.{GoesOn, Meets, Same, Before, After, one_text}
+use Rattle.ven_io.proofs.Reached.{Same, Before, After, one_text}
 use Rattle.array_file.specs.declared.fitting.FitFault.{FitFault}
 use Rattle.array_file.specs.declared.fitting.FitFault.TheVariants as answers
 use Rattle.array_file.specs.Fitting as fitting
 use Rattle.array_file.specs.Fitting.{Fits, IsUnfit, IsInput, Misfit, Missing, TypeWrong, ShapeWrong, Extra, IsMisfit, place_in}
 use Rattle.array_syntax.specs.declared.fault.ParseFault.{ParseFault}
 use Rattle.array_syntax.specs.declared.program.Program.{Program}
-use Rattle.array_syntax.specs.declared.program.Stmt.{Stmt}
 use Rattle.array_syntax.specs.declared.word.Token.{Token}
 use Rattle.array_syntax.specs.Faults as syntax
 use Rattle.array_syntax.specs.Faults.{Cause, NotAscii, NameTooLong, NumberTooLarge, TooHigh, Unexpected, TooManyOpen, TooManyStatements, TooManyNodes, IsAccepted, IsRefused}

@@ -1,5 +1,5 @@
 -- What a call's promise says where nothing may fail.
-use Rattle.std.proofs.Common.{◌≡◌, ◌≢◌, ◌⊎◌, inl, inr, ℕ, List, [], ◌∷◌, Option, Some, None, Result, Ok, Err, refl, sym, ap, subst, ◌∙◌}
+use Rattle.std.proofs.Common.{◌≡◌, ◌⊎◌, inl, inr, ℕ, List, [], ◌∷◌, Option, Some, None, Ok, Err, sym, ap, subst, ◌∙◌}
 use Rattle.ven_io.specs.Files.{Behaviour}
 use Rattle.ven_io.specs.Sink.{SinkState, Takes}
 use Rattle.venice_run.specs.declared.ending.Ending.{Ending}
@@ -10,7 +10,7 @@ use Rattle.venice_run.specs.declared.refusal.Refusal.{Refusal}
 use Rattle.venice_run.specs.declared.refusal.Refusal.TheVariants.{Usage, FileMissing, TooLong, Parse, Check, Form, Scratchpad, Arrays, Fit, Grants, Image, Text, Machine}
 use Rattle.venice_run.specs.Answer.{Answer, Save, status_with, answer_status}
 use Rattle.venice_run.specs.Commands.{answer_to}
-use Rattle.venice_run.specs.Laws.{NothingFails, NoneCounted, IsAnswered, IsRefused, IsComplete}
+use Rattle.venice_run.specs.Laws.{NothingFails, NoneCounted, IsComplete}
 use Rattle.venice_run.specs.Line.{line_of, status_of, refusal_status, memory_status, save_status, save_line}
 use Rattle.venice_run.specs.Lines.{text_lines}
 use Rattle.venice_run.specs.Promise.{Moment, Outcome, Done, Stopped, NotSaved, SaveMade, SaveFailed, Comes, Does, FailsToSave, LacksMemory, Stops, Says, Whole, FailsAt, LacksMemoryAt, SaysEnding, SaysOutcome, Promise}

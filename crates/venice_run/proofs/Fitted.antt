@@ -1,16 +1,14 @@
 -- Inputs that fit a program's table, which is made entry by entry.
 use Rattle.std.proofs.Common.{◌≡◌, ℕ, ◌+◌, ◌<◌, ◌≤◌, List, [], ◌∷◌, ◌++◌, drop, length, get_or, refl, sym, ap, ◌∙◌, append_assoc, arith, false, suc, Contains, Option, Some, IfSome, subst}
 use Rattle.std.proofs.lemmas.List.{append-nil, drop_more, drop_all, get_or-map, length-map}
-use Rattle.ven_base.specs.declared.elem.Elem.{Elem}
 use Rattle.ven_base.specs.declared.entry.Entry.{Entry}
-use Rattle.ven_base.specs.Extent.{Extent}
 use Rattle.ven_base.specs.Grid.{Grid, IsGrid}
-use Rattle.ven_base.specs.Pairs.{Pairs, ArePairs, arrays_of, array_named}
+use Rattle.ven_base.specs.Pairs.{Pairs, ArePairs, array_named}
 use Rattle.ven_base.proofs.NamedArrays.{array_named-pair}
 use Rattle.array_file.specs.Fitting.{Fits, IsInput, HasArrayFor}
 use Rattle.shape_check.specs.declared.checked.CheckedStmt.{CheckedStmt}
 use Rattle.shape_check.specs.Checked.{program_of, statement_of}
-use Rattle.shape_check.specs.Meaning.{FitInputs, HasInput}
+use Rattle.shape_check.specs.Meaning.{FitInputs}
 use Rattle.shape_check.specs.Statement.{Statement, Input, Let, Output}
 use Rattle.venice_run.specs.Inputs.{input_entry, input_table}
 

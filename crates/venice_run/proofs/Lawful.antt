@@ -1,5 +1,5 @@
 -- Stages that come to one thing, and fail to load only where a load may fail.
-use Rattle.std.proofs.Common.{◌≡◌, ◌⊎◌, inl, inr, ℕ, ◌<◌, ◌≤◌, List, [], ◌∷◌, length, Option, Some, None, Result, Ok, Err, refl, sym, ap, subst, ◌∙◌, arith}
+use Rattle.std.proofs.Common.{◌≡◌, inl, inr, ℕ, List, [], length, Option, Some, None, Result, Ok, Err, refl, sym, ap, subst, ◌∙◌, arith}
 use Rattle.std.specs.Prelude.{decimal}
 use Rattle.std.specs.Option.{option_map, option_to_list}
 use Rattle.std.proofs.lemmas.Fmt.{decimal_injective}
@@ -17,7 +17,6 @@ use Rattle.venice_asm.specs.Faults as texts
 use Rattle.venice_asm.specs.Laws as text_laws
 use Rattle.venice_machine.specs.declared.grants.GrantFault.{GrantFault}
 use Rattle.venice_machine.specs.declared.grants.GrantFault.TheVariants as grant_fault
-use Rattle.venice_machine.specs.declared.stop.Counts.{Counts}
 use Rattle.venice_machine.specs.declared.stop.Stop.{Stop}
 use Rattle.venice_machine.specs.declared.stop.End.{End}
 use Rattle.venice_machine.specs.declared.stop.End.TheVariants.{Halted, Stopped}
@@ -37,7 +36,6 @@ use Rattle.array_syntax.specs.Laws as syntax_laws
 use Rattle.expr_split.specs.Laws.{SplitsAreOne}
 use Rattle.expr_split.specs.Places.{IsSplitOf}
 use Rattle.pass_plan.specs.Need.{need_of}
-use Rattle.pass_plan.specs.Sound.{Split}
 use Rattle.shape_check.specs.declared.fault.CheckFault.{CheckFault}
 use Rattle.shape_check.specs.declared.fault.CheckFault.TheVariants as check_fault
 use Rattle.shape_check.specs.Faults as rules
@@ -48,13 +46,13 @@ use Rattle.venice_run.specs.declared.ending.Ending.TheVariants.{Refused, Failed}
 use Rattle.venice_run.specs.declared.ending.Fault.TheVariants.{File, Memory}
 use Rattle.venice_run.specs.declared.refusal.Kind.{Kind}
 use Rattle.venice_run.specs.declared.refusal.Refusal.{Refusal}
-use Rattle.venice_run.specs.declared.refusal.Refusal.TheVariants.{Usage, Scratchpad, Fit}
+use Rattle.venice_run.specs.declared.refusal.Refusal.TheVariants.{Usage, Scratchpad}
 use Rattle.venice_run.specs.declared.refusal.Shortage.{Shortage}
 use Rattle.venice_run.specs.declared.request.Request.{Request}
 use Rattle.venice_run.specs.declared.request.Request.TheVariants.{Run, Eval, Check, Explain, Exec, Asm, Disasm}
 use Rattle.venice_run.specs.declared.request.Resources.{Resources}
 use Rattle.venice_run.specs.Addition.{Addition, addition_program, addition_need}
-use Rattle.venice_run.specs.Answer.{Answer, Save, prints, saves_and_prints}
+use Rattle.venice_run.specs.Answer.{Answer, prints, saves_and_prints}
 use Rattle.venice_run.specs.Asm.{Assembles, assembled, asm}
 use Rattle.venice_run.specs.Check.{check}
 use Rattle.venice_run.specs.Commands.{stages_of, answer_to}

@@ -1,5 +1,5 @@
 -- Texts that are made item by item, and numbers in a line.
-use Rattle.std.proofs.Common.{◌≡◌, ℕ, ◌+◌, ◌<◌, ◌≤◌, List, [], ◌∷◌, ◌++◌, map, drop, length, get_or, refl, sym, ap, ◌∙◌, append_assoc, arith, max, suc, Option, Some, None}
+use Rattle.std.proofs.Common.{◌≡◌, ℕ, ◌+◌, ◌<◌, ◌≤◌, List, [], ◌∷◌, ◌++◌, map, drop, length, get_or, sym, ap, ◌∙◌, append_assoc, arith, max, suc, Option, Some, None}
 use Rattle.std.specs.Prelude.{fold, zero, MatchOption}
 use Rattle.std.proofs.lemmas.List.{append-nil, drop_more, drop_all}
 use Rattle.ven_base.specs.declared.elem.Elem.{Elem}
@@ -10,7 +10,7 @@ use Rattle.shape_check.specs.declared.checked.StmtKind.{StmtKind}
 use Rattle.shape_check.specs.declared.checked.StmtKind.TheVariants as kinds
 use Rattle.shape_check.specs.declared.typed.Typed.{Typed}
 use Rattle.shape_check.specs.Checked.{statement_with, statement_of, IsWhole, HasValue}
-use Rattle.shape_check.specs.Node.{elem_of, shape_of}
+use Rattle.shape_check.specs.Node.{shape_of}
 use Rattle.shape_check.specs.Typed.{node_of}
 use Rattle.shape_check.proofs.Plain.{elem_with, shape_with}
 use Rattle.eval_order.specs.Fault.{IsGreatest}

@@ -1,19 +1,18 @@
 -- What an addition means: the wrapped sums of the values of its inputs.
 use Rattle.std.proofs.Common.{◌≡◌, ℕ, ◌+◌, ◌*◌, ◌<◌, ◌≤◌, List, [], ◌∷◌, ◌++◌, length, map, get_or, refl, sym, ap, subst, ◌∙◌, arith, Bool, true, false, IsTrue, Contains}
-use Rattle.std.specs.Prelude.{ℤ, pos, ◌+ℤ◌, All, Option, Some, unwrap_or}
+use Rattle.std.specs.Prelude.{ℤ, pos, ◌+ℤ◌, Option, unwrap_or}
 use Rattle.std.specs.List.{zip}
 use Rattle.std.proofs.lemmas.List.{same_lists, get_or_default, get_or-map, length-map}
 use Rattle.std.proofs.lemmas.Slice.Zip.{get_or-zip, length-zip}
 use Rattle.ven_base.specs.declared.elem.Elem.TheVariants.{U8}
-use Rattle.ven_base.specs.declared.ops.Op2.TheVariants.{Add}
 use Rattle.ven_base.specs.Elem.{IsElement}
 use Rattle.ven_base.specs.Extent.{Extent, IsExtent, elements_of}
-use Rattle.ven_base.specs.Grid.{Grid, IsGrid, value_at, values_with, grid_with}
+use Rattle.ven_base.specs.Grid.{Grid, IsGrid, value_at, values_with}
 use Rattle.ven_base.specs.Pairs.{Pairs, names_of}
 use Rattle.ven_base.proofs.Wrapped.{IsElement-wrapped}
 use Rattle.ven_base.specs.Wrap.{wrapped}
 use Rattle.ven_base.proofs.Made.{values_with-length, grid_with-at}
-use Rattle.shape_check.specs.Meaning.{meaning_of, expr_at, no_grid, input_array, FitInputs, HasInput}
+use Rattle.shape_check.specs.Meaning.{meaning_of, expr_at, no_grid, input_array, HasInput}
 use Rattle.venice_run.specs.Addition.{Addition, sum_node, addition_program}
 use Rattle.venice_run.specs.Executor.{FitTile}
 use Rattle.venice_run.specs.Output.{sums_of}

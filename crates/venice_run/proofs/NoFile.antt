@@ -1,5 +1,5 @@
 -- Stages that load nothing don't fail to load.
-use Rattle.std.proofs.Common.{◌≡◌, ℕ, List, Result, Ok, Err, sym, subst, ◌∙◌}
+use Rattle.std.proofs.Common.{◌≡◌, ℕ, List, Result, Ok, Err, subst, ◌∙◌}
 use Rattle.ven_base.specs.declared.entry.Entry.{Entry}
 use Rattle.ven_base.specs.Pairs.{Pairs}
 use Rattle.ven_io.specs.Faults.{CountsFaults}
@@ -30,7 +30,7 @@ use Rattle.venice_run.specs.Grants.{grants_in}
 use Rattle.venice_run.specs.Images.{image_in}
 use Rattle.venice_run.specs.Inputs.{fitting, arrays_in}
 use Rattle.venice_run.specs.Programs.{program_in}
-use Rattle.venice_run.specs.Stage.{Then, Ends, Goes}
+use Rattle.venice_run.specs.Stage.{Ends, Goes}
 use Rattle.venice_run.proofs.Promised.{counts_same}
 
 pub counts_none : {P Q : Type 0} (before now : ℕ) → ¬ P → ¬ Q → CountsFaults before now P → CountsFaults before now Q

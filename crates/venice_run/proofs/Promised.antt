@@ -1,9 +1,9 @@
 -- From what the words come to, and what was made of it, to the promise.
-use Rattle.std.proofs.Common.{◌≡◌, Option, Some, None, Result, ℕ, sym, subst, ◌∙◌}
+use Rattle.std.proofs.Common.{◌≡◌, Result, ℕ, sym, subst, ◌∙◌}
 use Rattle.ven_io.specs.Faults.{CountsFaults}
 use Rattle.ven_io.specs.Files.{Behaviour}
 use Rattle.venice_run.specs.declared.ending.Ending.{Ending}
-use Rattle.venice_run.specs.Answer.{Answer, Save}
+use Rattle.venice_run.specs.Answer.{Answer}
 use Rattle.venice_run.specs.Promise.{Outcome, SaveMade, SaveFailed, Comes, Does, FailsToSave, LacksMemory, Stops}
 
 pub counts_same : {P Q : Type 0} (before now : ℕ) → (P → Q) → (Q → P) → CountsFaults before now P → CountsFaults before now Q

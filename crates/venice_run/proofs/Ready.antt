@@ -10,12 +10,12 @@ use Rattle.venice_machine.specs.Machine.{MachineContents, Shows}
 use Rattle.venice_machine.specs.Start.{setup_of, start_state}
 use Rattle.venice_run.specs.declared.ending.Ending.{Ending}
 use Rattle.venice_run.specs.declared.request.Resources.{Resources}
-use Rattle.venice_run.specs.Exec.{Fed, fed_image}
+use Rattle.venice_run.specs.Exec.{fed_image}
 use Rattle.venice_run.specs.Images.{image_under}
 use Rattle.venice_run.specs.Inputs.{fitting, arrays_under, inputs_under}
 use Rattle.venice_run.specs.Plan.{has_room}
 use Rattle.venice_run.specs.Ready.{readies}
-use Rattle.venice_run.specs.Stage.{Then, Ends, Goes, as_stage}
+use Rattle.venice_run.specs.Stage.{Ends, Goes, as_stage}
 
 module _ (files : Behaviour) (image inputs : List ℕ) (resources : Resources) where
   -- there is none, at the exit of a `?`

@@ -1,5 +1,5 @@
 -- What a command answers: the file that it saves, and what it prints then.
-use Rattle.std.specs.Prelude.{◌≡◌, ℕ, List, [], ◌++◌, Option, Some, None}
+use Rattle.std.specs.Prelude.{◌≡◌, ℕ, List, ◌++◌, Option, Some, None}
 use Rattle.std.specs.Option.{option_map}
 use Rattle.venice_run.specs.declared.answer.Answer as code
 use Rattle.venice_run.specs.declared.answer.Save as saved

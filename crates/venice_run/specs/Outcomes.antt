@@ -1,5 +1,5 @@
 -- Inner: outcomes as the code holds them, and the end of a save that may be asked for.
-use Rattle.std.specs.Prelude.{◌≡◌, Option, Some, None, Result, Ok, Err}
+use Rattle.std.specs.Prelude.{◌≡◌, Option, Result, Ok, Err}
 use Rattle.std.specs.Option.{option_map}
 use Rattle.ven_io.specs.Files.{Behaviour}
 use Rattle.ven_io.specs.declared.sink.OutFault.{OutFault}
@@ -7,7 +7,7 @@ use Rattle.ven_io.specs.declared.sink.OutFault.TheVariants as out
 use Rattle.venice_run.specs.declared.answer.Save as asked
 use Rattle.venice_run.specs.declared.top.Outcome as code
 use Rattle.venice_run.specs.declared.top.Outcome.TheVariants as outcome
-use Rattle.venice_run.specs.Answer.{Save, save_of, answer_of}
+use Rattle.venice_run.specs.Answer.{save_of, answer_of}
 use Rattle.venice_run.specs.Promise.{Outcome, Done, Stopped, NotSaved, SaveMade, SaveFailed}
 
 abbrev pub outcome_of : code.Outcome → Outcome

@@ -5,13 +5,12 @@ use Rattle.ven_io.specs.Faults.{CountsFaults, one_more}
 use Rattle.ven_io.specs.Files.{Behaviour, FilesState, Saves}
 use Rattle.ven_io.specs.Sink.{SinkState, Takes, TakesPart}
 use Rattle.venice_run.specs.declared.ending.Ending.{Ending}
-use Rattle.venice_run.specs.declared.ending.Ending.TheVariants.{Refused, Failed}
+use Rattle.venice_run.specs.declared.ending.Ending.TheVariants.{Failed}
 use Rattle.venice_run.specs.declared.ending.Fault.TheVariants.{File, Memory}
 use Rattle.venice_run.specs.Answer.{Answer, Save, answer_status}
 use Rattle.venice_run.specs.Commands.{answer_to}
 use Rattle.venice_run.specs.Line.{line_of, status_of, save_line, save_status, put_status, memory_status}
 use Rattle.venice_run.specs.Lines.{text_lines}
-use Rattle.venice_run.specs.Stage.{Stage}
 
 -- files and sink at a moment
 pub record Moment (Content : Type 0) : Type 1 where

@@ -1,5 +1,5 @@
 -- Inner: machines that are made for a run.
-use Rattle.std.specs.Prelude.{◌≡◌, ℕ, List, Result, Ok, Err}
+use Rattle.std.specs.Prelude.{◌≡◌, ℕ, List, Ok, Err}
 use Rattle.ven_io.specs.Files.{Behaviour}
 use Rattle.venice_machine.specs.Machine.{MachineContents, Shows}
 use Rattle.venice_machine.specs.Start.{setup_of, start_state}

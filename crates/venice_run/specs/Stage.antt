@@ -1,5 +1,5 @@
 -- Stages: each passes with a value or ends the command, and one stands behind the other.
-use Rattle.std.specs.Prelude.{◌≡◌, ℕ, Result, Ok, Err}
+use Rattle.std.specs.Prelude.{◌≡◌, Result, Ok, Err}
 use Rattle.venice_run.specs.declared.ending.Ending.{Ending}
 use Rattle.venice_run.specs.declared.ending.Ending.TheVariants.{Refused, Failed}
 use Rattle.venice_run.specs.declared.ending.Fault.TheVariants.{Memory}

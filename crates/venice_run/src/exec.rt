@@ -47,9 +47,9 @@ pub(crate) fn exec<'a, F: Files>(
         (option_map (λ name. name.now) grants.entry) (as_stage answer_of result) }
     ensures only { OnlyLoads (F.state files.old) (F.state files.new) (IsErrOf result (Ending.Failed Fault.File)) }
 {
-    let machine = fed_machine(alloc, files, image, inputs, resources)?;
+    let mut machine = fed_machine(alloc, files, image, inputs, resources)?;
     let list = load_grants(alloc, files, grants)?;
-    print_run(alloc, machine, &list, resources.budget)
+    print_run(alloc, &mut machine, &list, resources.budget)
 }
 
 /// The machine of IMAGE with INPUTS in memory.
@@ -95,18 +95,18 @@ fn make_machine(
 /// Runs the machine, and prints what it comes to.
 fn print_run<'a>(
     alloc: Global,
-    mut machine: Machine,
+    machine: &mut Machine,
     grants: &Grants,
     budget: u64,
 ) -> Result<Answer<'a>, Ending>
     requires few_steps { budget ≤ step_limit }
-    requires few_cycles { machine.cycles < 2 ^ 61 }
-    ensures { (state : State) → Shows machine state →
-        prints_run machine.setup.table (run machine.setup budget grants.now state)
+    requires few_cycles { machine.old.cycles < 2 ^ 61 }
+    ensures { (state : State) → Shows machine.old state →
+        prints_run machine.old.setup.table (run machine.old.setup budget grants.now state)
         (as_stage answer_of result) }
 {
     let counts = machine.run(grants, budget)?;
-    let text = run_text(alloc, &machine, counts)?;
+    let text = run_text(alloc, machine, counts)?;
     Ok(Answer::printing(text))
 }
 

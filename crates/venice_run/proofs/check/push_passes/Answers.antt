@@ -1,5 +1,4 @@
-use Rattle.std.proofs.Common.{◌≡◌, ◌+◌, arith, refl, sym, ap, subst, length}
-use Rattle.std.proofs.lemmas.List.{get_or-map, length-map}
+use Rattle.std.proofs.Common.{◌+◌, arith, refl}
 use Rattle.pass_plan.specs.Shown.{pass_of}
 use Rattle.venice_run.specs.Check.{pass_line}
 use Rattle.venice_run.proofs.Listing.{next_lines, last_lines}

@@ -14,16 +14,16 @@ use Rattle.venice_run.proofs.exec.print_run.Goals as goal
 pub returns-in_err-counts : goal.returns-in_err-counts
 unfolding prints_run
 returns-in_err-counts c = λ state shows.
-    let end = run c.args.machine.setup c.args.budget c.args.grants.now state in
+    let end = run c.args.machine.now.setup c.args.budget c.args.grants.now state in
     step_ends machine_ending (RunEnds end) answer_of _ _ c.from_residual.ensures.1 (c.in_err-counts.ensures.answer state shows)
 
 pub returns-in_err-text : goal.returns-in_err-text
 unfolding prints_run
 returns-in_err-text c = λ state shows.
-    let end = run c.args.machine.setup c.args.budget c.args.grants.now state in
+    let end = run c.args.machine.now.setup c.args.budget c.args.grants.now state in
     let gone = err_from_is_err_and c.from_residual-in_err-text.result c.from_residual-in_err-text.ensures.1 in
     Goes c.in_ok-counts.counts (c.in_ok-counts.ensures.answer state shows)
-    (subst (λ r. prints (run_text c.args.machine.setup.table end) (as_stage answer_of r)) (sym gone.1) gone.2)
+    (subst (λ r. prints (run_text c.args.machine.now.setup.table end) (as_stage answer_of r)) (sym gone.1) gone.2)
 
 abbrev printed : List ℕ → Answer
 printed text = record { save = None; text = text; stop = None }
@@ -31,8 +31,8 @@ printed text = record { save = None; text = text; stop = None }
 pub returns : goal.returns
 unfolding prints_run
 returns c = λ state shows.
-    let end = run c.args.machine.setup c.args.budget c.args.grants.now state in
-    let table : c.run.new.self.setup.table ≡ c.args.machine.setup.table = ap (λ (setup : Setup). setup.table) c.in_ok-counts.ensures.setup in
+    let end = run c.args.machine.now.setup c.args.budget c.args.grants.now state in
+    let table : c.run.new.self.setup.table ≡ c.args.machine.now.setup.table = ap (λ (setup : Setup). setup.table) c.in_ok-counts.ensures.setup in
     let text : c.in_ok-text.text.items ≡ run_text c.run.new.self.setup.table end = c.in_ok-text.ensures end (c.in_ok-counts.ensures.state state shows) (c.in_ok-counts.ensures.answer state shows).1 in
     Goes c.in_ok-counts.counts (c.in_ok-counts.ensures.answer state shows)
     (c.printing.ensures ∙ ap printed (text ∙ ap (λ (table : List Entry). run_text table end) table))

@@ -1,4 +1,3 @@
-use Rattle.std.proofs.Common.{◌≡◌, ◌∙◌, sym}
 use Rattle.venice_run.proofs.Listing.{greatest_is}
 use Rattle.venice_run.proofs.explain.push_most.Goals as goal
 

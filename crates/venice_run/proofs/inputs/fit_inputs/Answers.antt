@@ -1,4 +1,4 @@
-use Rattle.std.proofs.Common.{◌≡◌, ◌∙◌, ap, refl, subst}
+use Rattle.std.proofs.Common.{◌∙◌, ap, refl, subst}
 use Rattle.ven_base.specs.Pairs.{ArePairs}
 use Rattle.shape_check.specs.Checked.{program_of}
 use Rattle.venice_run.specs.Inputs.{input_table}

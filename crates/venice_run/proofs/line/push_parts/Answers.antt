@@ -1,4 +1,3 @@
-use Rattle.std.proofs.Common.{get_or}
 use Rattle.venice_run.proofs.Parts.{next_part}
 use Rattle.venice_run.proofs.line.push_parts.Goals as goal
 
