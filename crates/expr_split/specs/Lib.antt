@@ -7,3 +7,5 @@ pub mod Asks
 pub mod Placing
 pub mod Maps
 pub mod Laws
+pub mod DeclaredTable
+pub mod TableLaws

@@ -1,5 +1,6 @@
 //! Laws of splits, each the contract of a function that does nothing. A caller of the function may use them.
 ghost use Rattle.expr_split.specs.Laws.{KeepsMeaning, MakesArraysInOrder, SplitsAreOne, SplitsAreSound, BoundsAreLawful, NeedsAreSome, TreesAreFew, MapsAreFew, SplitsHaveFewNodes, SplitsAreSmall};
+ghost use Rattle.expr_split.specs.TableLaws.{TablesAreDeclared, EntriesAreArrays, SourcesAreInputs, OutputsAreLeft};
 
 /// Done in order on whole arrays, the passes of a program's split leave each output's meaning.
 pub fn meaning_law()
@@ -24,4 +25,13 @@ pub fn size_laws()
     ensures maps { MapsAreFew }
     ensures few { SplitsHaveFewNodes }
     ensures small { SplitsAreSmall }
+{}
+
+/// What holds of the table of every checked program's split: it has the program's inputs and outputs, each an array of
+/// its own; an array that no pass makes is an input's; and the outputs' arrays are left as the program means them.
+pub fn table_laws()
+    ensures declared { TablesAreDeclared }
+    ensures arrays { EntriesAreArrays }
+    ensures sources { SourcesAreInputs }
+    ensures outputs { OutputsAreLeft }
 {}

@@ -13,5 +13,5 @@ mod plan;
 mod splitting;
 mod term;
 
-pub use laws::{meaning_law, size_laws, split_laws};
+pub use laws::{meaning_law, size_laws, split_laws, table_laws};
 pub use splitting::split;

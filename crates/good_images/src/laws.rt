@@ -1,0 +1,18 @@
+//! The laws of good images. A caller of the function may use them.
+
+ghost use Rattle.good_images.specs.Laws.{TheyAreImages, TheyAreGood, ListsLeaveOutputs, TablesFit, FittingArraysAreInputs, GoodRunsHalt};
+
+/// The image of a split and of code for it is an image, and a good one; done one after another its list leaves the
+/// outputs; and a run of it isn't stopped.
+pub fn good_laws()
+    ensures images { TheyAreImages }
+    ensures good { TheyAreGood }
+    ensures leave { ListsLeaveOutputs }
+    ensures halt { GoodRunsHalt }
+{}
+
+/// Arrays that fit a program's inputs are inputs of the program, and fit every table that has these.
+pub fn table_fits()
+    ensures tables { TablesFit }
+    ensures inputs { FittingArraysAreInputs }
+{}
