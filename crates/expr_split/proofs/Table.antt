@@ -1,5 +1,5 @@
 -- The table of a checked program's split: its entries stand for arrays, each for one of its own.
-use Rattle.std.proofs.Common.{◌≡◌, ◌≢◌, ℕ, zero, suc, ◌+◌, ◌<◌, ◌≤◌, List, [], ◌∷◌, ◌++◌, length, get_or, refl, sym, ap, ◌∙◌, subst, arith, append_assoc, length-append, Bool, true, false, Some, All, inl, inr}
+use Rattle.std.proofs.Common.{◌≡◌, ◌≢◌, ℕ, ◌+◌, ◌<◌, ◌≤◌, List, [], ◌∷◌, ◌++◌, length, get_or, refl, sym, ap, ◌∙◌, subst, arith, append_assoc, length-append, Bool, true, false, Some, All, inl, inr}
 use Rattle.std.specs.Prelude.{slice_get, map, ◌⊎◌, AllPairs}
 use Rattle.std.specs.List.{AllZip}
 use Rattle.std.proofs.lemmas.List.{append-nil, length-map, map-append}
@@ -16,7 +16,7 @@ use Rattle.pass_plan.specs.declared.leaf.Leaf.{Leaf}
 use Rattle.pass_plan.specs.declared.split.ArrayPlace.{ArrayPlace}
 use Rattle.pass_plan.specs.Tree.{TreeOver}
 use Rattle.pass_plan.specs.Sound.{no_place}
-use Rattle.expr_split.specs.Cuts.{Draft, Own, draft_of, own_of, statement_of, inputs_in, plan_from}
+use Rattle.expr_split.specs.Cuts.{Draft, draft_of, own_of, statement_of, inputs_in, plan_from}
 use Rattle.expr_split.specs.DeclaredTable.{declared_table, unplaced}
 use Rattle.expr_split.specs.Places.{input_type, input_types, draft_type, places_from, table_from}
 use Rattle.expr_split.proofs.Good.{get_more, get_here}
@@ -62,7 +62,8 @@ table-declared places program taken names base (Output name value ∷ more) =
 -- ---- the numbers of arrays
 
 -- what a node's own pass makes has the node's type and shape
-own-type : (types : List ArrayType) (names : List (TreeOver Leaf)) (base : ℕ) (e : Node) → IsTyped types e → draft_type (draft_of (own_of names base e)) ≡ type_of e
+own-type : (types : List ArrayType) (names : List (TreeOver Leaf)) (base : ℕ) (e : Node) → IsTyped types e
+    → draft_type (draft_of (own_of names base e)) ≡ type_of e
 own-type types names base (Name elem shape k) typed = refl
 own-type types names base (Literal elem shape value) typed = refl
 own-type types names base (One elem shape op a) typed = refl
@@ -70,8 +71,10 @@ own-type types names base (Two elem shape op a b) typed = refl
 own-type types names base (Cast elem shape a) typed = refl
 own-type types names base (Select elem shape c x y) typed = refl
 own-type types names base (Map elem shape mapping a) typed = refl
-own-type types names base (RowFold elem shape fold a) typed = ap (λ (s : Extent). let t : ArrayType = record { elem = elem; shape = s } in t) (sym typed.1.shape_is)
-own-type types names base (Fold elem shape fold a) typed = ap (λ (s : Extent). let t : ArrayType = record { elem = elem; shape = s } in t) (sym typed.1.shape_is)
+own-type types names base (RowFold elem shape fold a) typed = ap (λ (s : Extent). let t : ArrayType = record { elem = elem; shape = s } in t)
+    (sym typed.1.shape_is)
+own-type types names base (Fold elem shape fold a) typed = ap (λ (s : Extent). let t : ArrayType = record { elem = elem; shape = s } in t)
+    (sym typed.1.shape_is)
 
 -- the number of an input's or an output's array
 abbrev pub number_of : ℕ → List (TreeOver Leaf) → ℕ → Statement → List ℕ
@@ -86,7 +89,8 @@ numbers program taken names base (s ∷ more) =
     number_of taken names base s ++ numbers program (taken + inputs_in s) (names ++ seen.tree ∷ []) (base + length seen.passes) more
 
 -- the inputs and the passes of these statements are the last of all
-pub record AreLast (inputs : List ArrayType) (drafts : List Draft) (program : List Statement) (taken : ℕ) (names : List (TreeOver Leaf)) (base : ℕ) (stmts : List Statement) : Type 0 where
+pub record AreLast (inputs : List ArrayType) (drafts : List Draft) (program : List Statement) (taken : ℕ) (names : List (TreeOver Leaf)) (base : ℕ)
+    (stmts : List Statement) : Type 0 where
   pub before : List ArrayType
   pub done : List Draft
   pub inputs_are : inputs ≡ before ++ input_types stmts
@@ -94,9 +98,11 @@ pub record AreLast (inputs : List ArrayType) (drafts : List Draft) (program : Li
   pub drafts_are : drafts ≡ done ++ (plan_from program taken names base stmts).passes
   pub base_is : base ≡ length inputs + length done
 
-pub next : (inputs : List ArrayType) (drafts : List Draft) (program : List Statement) (taken : ℕ) (names : List (TreeOver Leaf)) (base : ℕ) (s : Statement) (more : List Statement)
+pub next : (inputs : List ArrayType) (drafts : List Draft) (program : List Statement) (taken : ℕ) (names : List (TreeOver Leaf)) (base : ℕ) (s : Statement)
+    (more : List Statement)
     → AreLast inputs drafts program taken names base (s ∷ more)
-    → let seen = statement_of program taken names base s in AreLast inputs drafts program (taken + inputs_in s) (names ++ seen.tree ∷ []) (base + length seen.passes) more
+    → let seen = statement_of program taken names base s in AreLast inputs drafts program (taken + inputs_in s) (names ++ seen.tree ∷ [])
+    (base + length seen.passes) more
 next inputs drafts program taken names base s more h =
     let seen = statement_of program taken names base s in
     let rest = plan_from program (taken + inputs_in s) (names ++ seen.tree ∷ []) (base + length seen.passes) more in
@@ -136,15 +142,18 @@ module _ (inputs : List ArrayType) (drafts : List Draft) where
   abbrev pub all_places : List ArrayPlace
   all_places = places_from 0 all_types
 
-  pub input-stands : (program : List Statement) (taken : ℕ) (names : List (TreeOver Leaf)) (base : ℕ) (name : List ℕ) (elem : Elem) (shape : Extent) (more : List Statement)
+  pub input-stands : (program : List Statement) (taken : ℕ) (names : List (TreeOver Leaf)) (base : ℕ) (name : List ℕ) (elem : Elem) (shape : Extent)
+      (more : List Statement)
       → AreLast inputs drafts program taken names base (Input name elem shape ∷ more)
       → StandsIn all_places (entry_for all_places name false (record { elem = elem; shape = shape }) taken) taken
   input-stands program taken names base name elem shape more h =
       let type : ArrayType = record { elem = elem; shape = shape } in
       stands-at all_types name false type taken
-      (get_more inputs (map draft_type drafts) taken type (ap (λ l. slice_get l taken) h.inputs_are ∙ get_here h.before type (input_types more) taken (sym h.taken_is)))
+      (get_more inputs (map draft_type drafts) taken type
+      (ap (λ l. slice_get l taken) h.inputs_are ∙ get_here h.before type (input_types more) taken (sym h.taken_is)))
 
-  pub output-stands : (types : List ArrayType) (program : List Statement) (taken : ℕ) (names : List (TreeOver Leaf)) (base : ℕ) (name : List ℕ) (value : Node) (more : List Statement)
+  pub output-stands : (types : List ArrayType) (program : List Statement) (taken : ℕ) (names : List (TreeOver Leaf)) (base : ℕ) (name : List ℕ)
+      (value : Node) (more : List Statement)
       → IsTyped types value → AreLast inputs drafts program taken names base (Output name value ∷ more)
       → let number = base + length (own_of names base value).passes in StandsIn all_places (entry_for all_places name true (type_of value) number) number
   output-stands types program taken names base name value more typed h =
@@ -156,12 +165,14 @@ module _ (inputs : List ArrayType) (drafts : List Draft) where
       let drafts_are : drafts ≡ front ++ d ∷ rest =
       h.drafts_are ∙ ap (λ l. h.done ++ l) (append_assoc own.passes (d ∷ []) rest) ∙ sym (append_assoc h.done own.passes (d ∷ rest)) in
       let all_are : all_types ≡ (inputs ++ map draft_type front) ++ draft_type d ∷ map draft_type rest =
-      ap (λ l. inputs ++ map draft_type l) drafts_are ∙ ap (λ l. inputs ++ l) (map-append draft_type front (d ∷ rest)) ∙ sym (append_assoc inputs (map draft_type front) (draft_type d ∷ map draft_type rest)) in
+      ap (λ l. inputs ++ map draft_type l) drafts_are ∙ ap (λ l. inputs ++ l) (map-append draft_type front (d ∷ rest)) ∙ sym
+      (append_assoc inputs (map draft_type front) (draft_type d ∷ map draft_type rest)) in
       let number = base + length own.passes in
       let many : length (inputs ++ map draft_type front) ≡ number =
       omega (arith, h.base_is, length-append inputs (map draft_type front), length-map front draft_type, length-append h.done own.passes) in
       stands-at all_types name true (type_of value) number
-      (ap (λ l. slice_get l number) all_are ∙ get_here (inputs ++ map draft_type front) (draft_type d) (map draft_type rest) number many ∙ ap Some (own-type types names base value typed))
+      (ap (λ l. slice_get l number) all_are ∙ get_here (inputs ++ map draft_type front) (draft_type d) (map draft_type rest) number many ∙ ap Some
+      (own-type types names base value typed))
 
   pub table-stands : (types : List ArrayType) (program : List Statement) (taken : ℕ) (names : List (TreeOver Leaf)) (base : ℕ) (stmts : List Statement)
       → AreTyped types stmts → AreLast inputs drafts program taken names base stmts
@@ -171,17 +182,20 @@ module _ (inputs : List ArrayType) (drafts : List Draft) where
       let s = Input name elem shape in
       let seen = statement_of program taken names base s in (
         input-stands program taken names base name elem shape more h,
-        table-stands (types ++ declared_type s ∷ []) program (taken + inputs_in s) (names ++ seen.tree ∷ []) (base + length seen.passes) more typed.1 (next inputs drafts program taken names base s more h),
+        table-stands (types ++ declared_type s ∷ []) program (taken + inputs_in s) (names ++ seen.tree ∷ []) (base + length seen.passes) more typed.1
+            (next inputs drafts program taken names base s more h),
       )
   table-stands types program taken names base (Let name value ∷ more) typed h =
       let s = Let name value in
       let seen = statement_of program taken names base s in
-      table-stands (types ++ declared_type s ∷ []) program (taken + inputs_in s) (names ++ seen.tree ∷ []) (base + length seen.passes) more typed.1 (next inputs drafts program taken names base s more h)
+      table-stands (types ++ declared_type s ∷ []) program (taken + inputs_in s) (names ++ seen.tree ∷ []) (base + length seen.passes) more typed.1
+      (next inputs drafts program taken names base s more h)
   table-stands types program taken names base (Output name value ∷ more) typed h =
       let s = Output name value in
       let seen = statement_of program taken names base s in (
         output-stands types program taken names base name value more typed.0.0 h,
-        table-stands (types ++ declared_type s ∷ []) program (taken + inputs_in s) (names ++ seen.tree ∷ []) (base + length seen.passes) more typed.1 (next inputs drafts program taken names base s more h),
+        table-stands (types ++ declared_type s ∷ []) program (taken + inputs_in s) (names ++ seen.tree ∷ []) (base + length seen.passes) more typed.1
+            (next inputs drafts program taken names base s more h),
       )
 
   -- ---- each entry has an array of its own
@@ -205,20 +219,25 @@ module _ (inputs : List ArrayType) (drafts : List Draft) where
       All-cons (IsAhead taken base) taken rest (inl (omega arith, within))
       (All-weaker (IsAhead (taken + 1) base) (IsAhead taken base) (λ n a. ahead-weaker taken (taken + 1) base base n (omega arith) (omega arith) a) rest
       (subst (λ (b : ℕ). All (IsAhead (taken + 1) b) rest) (omega arith)
-      (numbers-ahead program (taken + inputs_in s) (names ++ seen.tree ∷ []) (base + length seen.passes) more (next inputs drafts program taken names base s more h))))
+      (numbers-ahead program (taken + inputs_in s) (names ++ seen.tree ∷ []) (base + length seen.passes) more
+      (next inputs drafts program taken names base s more h))))
   numbers-ahead program taken names base (Let name value ∷ more) h =
       let s = Let name value in
       let seen = statement_of program taken names base s in
       let rest = numbers program (taken + inputs_in s) (names ++ seen.tree ∷ []) (base + length seen.passes) more in
-      All-weaker (IsAhead (taken + 0) (base + length seen.passes)) (IsAhead taken base) (λ n a. ahead-weaker taken (taken + 0) base (base + length seen.passes) n (omega arith) (omega arith) a) rest
-      (numbers-ahead program (taken + inputs_in s) (names ++ seen.tree ∷ []) (base + length seen.passes) more (next inputs drafts program taken names base s more h))
+      All-weaker (IsAhead (taken + 0) (base + length seen.passes)) (IsAhead taken base)
+      (λ n a. ahead-weaker taken (taken + 0) base (base + length seen.passes) n (omega arith) (omega arith) a) rest
+      (numbers-ahead program (taken + inputs_in s) (names ++ seen.tree ∷ []) (base + length seen.passes) more
+      (next inputs drafts program taken names base s more h))
   numbers-ahead program taken names base (Output name value ∷ more) h =
       let s = Output name value in
       let seen = statement_of program taken names base s in
       let rest = numbers program (taken + inputs_in s) (names ++ seen.tree ∷ []) (base + length seen.passes) more in
       All-cons (IsAhead taken base) (base + length (own_of names base value).passes) rest (inr (omega arith))
-      (All-weaker (IsAhead (taken + 0) (base + length seen.passes)) (IsAhead taken base) (λ n a. ahead-weaker taken (taken + 0) base (base + length seen.passes) n (omega arith) (omega arith) a) rest
-      (numbers-ahead program (taken + inputs_in s) (names ++ seen.tree ∷ []) (base + length seen.passes) more (next inputs drafts program taken names base s more h)))
+      (All-weaker (IsAhead (taken + 0) (base + length seen.passes)) (IsAhead taken base)
+      (λ n a. ahead-weaker taken (taken + 0) base (base + length seen.passes) n (omega arith) (omega arith) a) rest
+      (numbers-ahead program (taken + inputs_in s) (names ++ seen.tree ∷ []) (base + length seen.passes) more
+      (next inputs drafts program taken names base s more h)))
 
   pub numbers-own : (program : List Statement) (taken : ℕ) (names : List (TreeOver Leaf)) (base : ℕ) (stmts : List Statement)
       → AreLast inputs drafts program taken names base stmts → AllPairs (λ a b. a ≢ b) (numbers program taken names base stmts)
@@ -238,7 +257,8 @@ module _ (inputs : List ArrayType) (drafts : List Draft) where
   numbers-own program taken names base (Let name value ∷ more) h =
       let s = Let name value in
       let seen = statement_of program taken names base s in
-      numbers-own program (taken + inputs_in s) (names ++ seen.tree ∷ []) (base + length seen.passes) more (next inputs drafts program taken names base s more h)
+      numbers-own program (taken + inputs_in s) (names ++ seen.tree ∷ []) (base + length seen.passes) more
+      (next inputs drafts program taken names base s more h)
   numbers-own program taken names base (Output name value ∷ more) h =
       let s = Output name value in
       let own = own_of names base value in

@@ -7,8 +7,7 @@ use Rattle.ven_base.specs.declared.entry.Entry.{Entry}
 use Rattle.ven_base.specs.Grid.{Grid, IsGrid}
 use Rattle.ven_base.specs.Pairs.{Pairs, array_named}
 use Rattle.shape_check.specs.declared.typed.ArrayType.{ArrayType}
-use Rattle.shape_check.specs.Checked.{IsCheckedProgram}
-use Rattle.shape_check.specs.Meaning.{no_grid, input_array, arrays_of, outputs_of, meaning_of, FitInputs, StandsFor}
+use Rattle.shape_check.specs.Meaning.{no_grid, arrays_of, outputs_of, meaning_of, FitInputs, StandsFor}
 use Rattle.shape_check.specs.Rules.{AreTyped, declared_type}
 use Rattle.shape_check.specs.Statement.{Statement, Input, Let, Output}
 use Rattle.shape_check.proofs.Meanings.{has_one_meaning}
@@ -16,11 +15,11 @@ use Rattle.pass_plan.specs.declared.leaf.Leaf.{Leaf}
 use Rattle.pass_plan.specs.declared.split.ArrayPlace.{ArrayPlace}
 use Rattle.pass_plan.specs.Tree.{TreeOver}
 use Rattle.pass_plan.specs.Pass.{Arrays, arrays_after}
-use Rattle.pass_plan.specs.Sound.{Split, no_place, destinations_of}
+use Rattle.pass_plan.specs.Sound.{Split, no_place}
 use Rattle.expr_split.specs.Cuts.{Draft, own_of, statement_of, inputs_in}
-use Rattle.expr_split.specs.DeclaredTable.{declared_table, unplaced}
-use Rattle.expr_split.specs.Places.{input_types, draft_type, plan_of, array_types, places_of, table_from, IsSplitOf, input_grids, no_array, first_arrays, outputs_left, left_of}
-use Rattle.expr_split.specs.TableLaws.{TablesAreDeclared, StandsAt, HasNumbers, EntriesAreArrays, IsFrom, SourcesAreInputs, IsLeftAs, OutputsAreLeft}
+use Rattle.expr_split.specs.DeclaredTable.{unplaced}
+use Rattle.expr_split.specs.Places.{input_types, draft_type, plan_of, array_types, places_of, table_from, IsSplitOf, input_grids, no_array, first_arrays, outputs_left}
+use Rattle.expr_split.specs.TableLaws.{TablesAreDeclared, StandsAt, EntriesAreArrays, SourcesAreInputs, IsLeftAs, OutputsAreLeft}
 use Rattle.expr_split.proofs.Soundness.{dests-are, passes-many, places-length}
 use Rattle.expr_split.proofs.Statements.{keeps_meaning}
 use Rattle.expr_split.proofs.Table.{new_trees, names-are, table-declared, numbers, AreLast, next, StandsIn, all_places, input-stands, output-stands, table-stands, numbers-own}
@@ -33,7 +32,8 @@ zip-weaker P Q f [] (y ∷ ys) h = absurd h
 zip-weaker P Q f (x ∷ xs) [] h = absurd h
 zip-weaker P Q f (x ∷ xs) (y ∷ ys) h = (f x y h.0, zip-weaker P Q f xs ys h.1)
 
-zip-both : {A B : Type 0} (P Q R : A → B → Type 0) → ((a : A) (b : B) → P a b → Q a b → R a b) → (xs : List A) (ys : List B) → AllZip P xs ys → AllZip Q xs ys → AllZip R xs ys
+zip-both : {A B : Type 0} (P Q R : A → B → Type 0) → ((a : A) (b : B) → P a b → Q a b → R a b) → (xs : List A) (ys : List B) → AllZip P xs ys
+    → AllZip Q xs ys → AllZip R xs ys
 zip-both P Q R f [] [] h g = tt
 zip-both P Q R f [] (y ∷ ys) h g = absurd h
 zip-both P Q R f (x ∷ xs) [] h g = absurd h
@@ -53,7 +53,8 @@ record IsSource (places : List ArrayPlace) (table : List Entry) (inputs : Pairs)
   stands : StandsIn places entry number
   is : array_named inputs entry.name ≡ Some array
 
-source-behind : (places : List ArrayPlace) (first : Entry) (table : List Entry) (inputs : Pairs) (number : ℕ) (array : Grid) → IsSource places table inputs number array → IsSource places (first ∷ table) inputs number array
+source-behind : (places : List ArrayPlace) (first : Entry) (table : List Entry) (inputs : Pairs) (number : ℕ) (array : Grid)
+    → IsSource places table inputs number array → IsSource places (first ∷ table) inputs number array
 source-behind places first table inputs number array h =
     record { k = suc h.k; entry = h.entry; there = h.there; input = h.input; stands = h.stands; is = h.is }
 
@@ -72,27 +73,39 @@ module _ (inputs : List ArrayType) (drafts : List Draft) where
         entry = record { name = name; output = false; elem = elem; shape = shape; place = (get_or places taken no_place).place };
         there = refl;
         input = refl;
-        stands = subst (λ (n : ℕ). StandsIn places (record { name = name; output = false; elem = elem; shape = shape; place = (get_or places taken no_place).place }) n) (omega (arith, is)) here;
+        stands = subst (λ (n : ℕ). StandsIn places
+            (record { name = name; output = false; elem = elem; shape = shape; place = (get_or places taken no_place).place }) n) (omega (arith, is)) here;
         is = fit.0.found ∙ ap Some (sym (ap (λ o. unwrap_or o (no_grid elem shape)) fit.0.found));
       }
   sources pairs program taken names base (Input name elem shape ∷ more) (suc j) number fit h is low =
       let s = Input name elem shape in
       let seen = statement_of program taken names base s in
       let rest = new_trees program (taken + inputs_in s) (names ++ seen.tree ∷ []) (base + length seen.passes) more in
-      source-behind places (record { name = name; output = false; elem = elem; shape = shape; place = (get_or places taken no_place).place }) (table_from places more rest) pairs number (get_or (input_grids pairs more) j no_array)
-      (sources pairs program (taken + inputs_in s) (names ++ seen.tree ∷ []) (base + length seen.passes) more j number fit.1 (next inputs drafts program taken names base s more h) (omega (arith, is)) (omega (arith, low)))
+      source-behind places (record { name = name; output = false; elem = elem; shape = shape; place = (get_or places taken no_place).place })
+      (table_from places more rest) pairs number (get_or (input_grids pairs more) j no_array)
+      (sources pairs program (taken + inputs_in s) (names ++ seen.tree ∷ []) (base + length seen.passes) more j number fit.1
+      (next inputs drafts program taken names base s more h) (omega (arith, is)) (omega (arith, low)))
   sources pairs program taken names base (Let name value ∷ more) j number fit h is low =
       let s = Let name value in
       let seen = statement_of program taken names base s in
-      sources pairs program (taken + inputs_in s) (names ++ seen.tree ∷ []) (base + length seen.passes) more j number fit.1 (next inputs drafts program taken names base s more h) (omega (arith, is)) low
+      sources pairs program (taken + inputs_in s) (names ++ seen.tree ∷ []) (base + length seen.passes) more j number fit.1
+      (next inputs drafts program taken names base s more h) (omega (arith, is)) low
   sources pairs program taken names base (Output name value ∷ more) j number fit h is low =
       let s = Output name value in
       let seen = statement_of program taken names base s in
       let own = own_of names base value in
       let rest = new_trees program (taken + inputs_in s) (names ++ seen.tree ∷ []) (base + length seen.passes) more in
       let type = declared_type s in
-      source-behind places (record { name = name; output = true; elem = type.elem; shape = type.shape; place = (get_or places (base + length own.passes) no_place).place }) (table_from places more rest) pairs number (get_or (input_grids pairs more) j no_array)
-      (sources pairs program (taken + inputs_in s) (names ++ seen.tree ∷ []) (base + length seen.passes) more j number fit.1 (next inputs drafts program taken names base s more h) (omega (arith, is)) low)
+      source-behind places (record {
+        name = name;
+        output = true;
+        elem = type.elem;
+        shape = type.shape;
+        place =
+            (get_or places (base + length own.passes) no_place).place;
+      }) (table_from places more rest) pairs number (get_or (input_grids pairs more) j no_array)
+      (sources pairs program (taken + inputs_in s) (names ++ seen.tree ∷ []) (base + length seen.passes) more j number fit.1
+      (next inputs drafts program taken names base s more h) (omega (arith, is)) low)
 
   -- ---- outputs
 
@@ -103,24 +116,29 @@ module _ (inputs : List ArrayType) (drafts : List Draft) where
     stands : StandsIn places entry number
     is : arrays number ≡ output.1
 
-  outputs-stand : (arrays : Arrays) (types : List ArrayType) (program : List Statement) (taken : ℕ) (names : List (TreeOver Leaf)) (base : ℕ) (stmts : List Statement)
+  outputs-stand : (arrays : Arrays) (types : List ArrayType) (program : List Statement) (taken : ℕ) (names : List (TreeOver Leaf)) (base : ℕ)
+      (stmts : List Statement)
       → AreTyped types stmts → AreLast inputs drafts program taken names base stmts
-      → AllZip (IsLeft arrays) (filter is_out (table_from places stmts (new_trees program taken names base stmts))) (outputs_left arrays stmts (new_trees program taken names base stmts))
+      → AllZip (IsLeft arrays) (filter is_out (table_from places stmts (new_trees program taken names base stmts)))
+      (outputs_left arrays stmts (new_trees program taken names base stmts))
   outputs-stand arrays types program taken names base [] typed h = tt
   outputs-stand arrays types program taken names base (Input name elem shape ∷ more) typed h =
       let s = Input name elem shape in
       let seen = statement_of program taken names base s in
-      outputs-stand arrays (types ++ declared_type s ∷ []) program (taken + inputs_in s) (names ++ seen.tree ∷ []) (base + length seen.passes) more typed.1 (next inputs drafts program taken names base s more h)
+      outputs-stand arrays (types ++ declared_type s ∷ []) program (taken + inputs_in s) (names ++ seen.tree ∷ []) (base + length seen.passes) more typed.1
+      (next inputs drafts program taken names base s more h)
   outputs-stand arrays types program taken names base (Let name value ∷ more) typed h =
       let s = Let name value in
       let seen = statement_of program taken names base s in
-      outputs-stand arrays (types ++ declared_type s ∷ []) program (taken + inputs_in s) (names ++ seen.tree ∷ []) (base + length seen.passes) more typed.1 (next inputs drafts program taken names base s more h)
+      outputs-stand arrays (types ++ declared_type s ∷ []) program (taken + inputs_in s) (names ++ seen.tree ∷ []) (base + length seen.passes) more typed.1
+      (next inputs drafts program taken names base s more h)
   outputs-stand arrays types program taken names base (Output name value ∷ more) typed h =
       let s = Output name value in
       let own = own_of names base value in
       let seen = statement_of program taken names base s in (
         record { named = refl; number = base + length own.passes; stands = output-stands inputs drafts types program taken names base name value more typed.0.0 h; is = refl },
-        outputs-stand arrays (types ++ declared_type s ∷ []) program (taken + inputs_in s) (names ++ seen.tree ∷ []) (base + length seen.passes) more typed.1 (next inputs drafts program taken names base s more h),
+        outputs-stand arrays (types ++ declared_type s ∷ []) program (taken + inputs_in s) (names ++ seen.tree ∷ []) (base + length seen.passes) more typed.1
+            (next inputs drafts program taken names base s more h),
       )
 
   -- an output's meaning has the type and shape of its entry
@@ -129,8 +147,10 @@ module _ (inputs : List ArrayType) (drafts : List Draft) where
     shape_is : output.1.shape ≡ entry.shape
     is_grid : IsGrid output.1
 
-  outputs-meant : (pairs : Pairs) (all : List Grid) (program : List Statement) (taken : ℕ) (names : List (TreeOver Leaf)) (base : ℕ) (stmts : List Statement) (arrays : List Grid)
-      → AllZip (StandsFor pairs all) stmts arrays → AllZip IsMeant (filter is_out (table_from places stmts (new_trees program taken names base stmts))) (outputs_of stmts arrays)
+  outputs-meant : (pairs : Pairs) (all : List Grid) (program : List Statement) (taken : ℕ) (names : List (TreeOver Leaf)) (base : ℕ) (stmts : List Statement)
+      (arrays : List Grid)
+      → AllZip (StandsFor pairs all) stmts arrays
+      → AllZip IsMeant (filter is_out (table_from places stmts (new_trees program taken names base stmts))) (outputs_of stmts arrays)
   outputs-meant pairs all program taken names base [] [] h = tt
   outputs-meant pairs all program taken names base [] (a ∷ arrays) h = absurd h
   outputs-meant pairs all program taken names base (s ∷ more) [] h = absurd h
@@ -169,7 +189,8 @@ trees-are program = names-are program 0 [] (length (input_types program)) progra
 table-is : (program : List Statement) (split : Split) → IsSplitOf program split → split.table ≡ table_in program
 table-is program split is = is.table ∙ ap (table_from (places_of program) program) (trees-are program)
 
-stands-in-split : (program : List Statement) (split : Split) → IsSplitOf program split → (entry : Entry) (number : ℕ) → StandsIn (places_of program) entry number → StandsAt split entry number
+stands-in-split : (program : List Statement) (split : Split) → IsSplitOf program split → (entry : Entry) (number : ℕ)
+    → StandsIn (places_of program) entry number → StandsAt split entry number
 stands-in-split program split is entry number h = record {
   known = subst (λ (a : List ArrayPlace). number < length a) (sym is.arrays) h.known;
   is = ap (λ (a : List ArrayPlace). get_or a number no_place) is.arrays ∙ h.is;
@@ -195,10 +216,12 @@ entries_are_arrays program split checked is =
 -- a number that isn't among so many from a place on is below them, or behind them
 in-range : (a n k : ℕ) → a ≤ k → k < a + n → Contains (range_with_len a n) k
 in-range a zero k low high = absurd (omega arith)
-in-range a (suc n) k low high = elim (first a k low) [ inl same ↦ (0, omega arith, sym same) | inr more ↦ later (in-range (a + 1) n k more (omega (arith, high))) ]
+in-range a (suc n) k low high = elim (first a k low)
+    [ inl same ↦ (0, omega arith, sym same) | inr more ↦ later (in-range (a + 1) n k more (omega (arith, high))) ]
   where
     first : (a k : ℕ) → a ≤ k → (k ≡ a) ⊎ (a + 1 ≤ k)
     first a k low = grind arith
+
     later : Contains (range_with_len (a + 1) n) k → Contains (range_with_len a (suc n)) k
     later c = (suc c.0, omega (arith, c.1), c.2)
 
@@ -208,9 +231,17 @@ sources_are_inputs program split pairs number checked fit is known unmade =
     let ds = drafts_in program in
     let base = length types in
     let many : length split.arrays ≡ base + length split.passes =
-    omega (arith, ap length is.arrays, places-length 0 (array_types program), length-append types (map draft_type ds), length-map ds draft_type, passes-many base ds split.passes is.passes) in
+    omega (
+      arith,
+      ap length is.arrays,
+      places-length 0 (array_types program),
+      length-append types
+          (map draft_type ds),
+      length-map ds draft_type,
+      passes-many base ds split.passes is.passes,
+    ) in
     let low : number < base = below number base (length split.passes) (omega (arith, known, many))
-        (λ c. unmade (subst (λ (l : List ℕ). Contains l number) (sym (dests-are base ds split.passes is.passes)) c)) in
+    (λ c. unmade (subst (λ (l : List ℕ). Contains l number) (sym (dests-are base ds split.passes is.passes)) c)) in
     let source = sources types ds pairs program 0 [] base program number number fit (all-last program) (omega arith) low in
     record {
       k = source.k;
@@ -223,6 +254,7 @@ sources_are_inputs program split pairs number checked fit is known unmade =
   where
     either : (number base : ℕ) → (number < base) ⊎ (base ≤ number)
     either number base = grind arith
+
     below : (number base n : ℕ) → number < base + n → ¬ Contains (range_with_len base n) number → number < base
     below number base n high absent = elim (either number base) [ inl l ↦ l | inr m ↦ absurd (absent (in-range base n number m high)) ]
 
@@ -238,7 +270,8 @@ outputs_are_left program split pairs checked fit is =
     let left_is : outputs_left arrays program trees ≡ meaning_of program pairs =
     ap (outputs_left arrays program) (sym (trees-are program)) ∙ keeps_meaning program split pairs checked fit is in
     let left : AllZip (IsLeft types ds arrays) outs (meaning_of program pairs) =
-    subst (λ (o : Pairs). AllZip (IsLeft types ds arrays) outs o) left_is (outputs-stand types ds arrays [] program 0 [] base program checked.typed (all-last program)) in
+    subst (λ (o : Pairs). AllZip (IsLeft types ds arrays) outs o) left_is
+    (outputs-stand types ds arrays [] program 0 [] base program checked.typed (all-last program)) in
     subst (λ (t : List Entry). AllZip (IsLeftAs split arrays) (filter is_out t) (meaning_of program pairs)) (sym (table-is program split is))
     (zip-both (IsLeft types ds arrays) (IsMeant types ds) (IsLeftAs split arrays)
     (λ entry output l m. record {
@@ -249,4 +282,5 @@ outputs_are_left program split pairs checked fit is =
       elem_is = m.elem_is;
       shape_is = m.shape_is;
       is_grid = m.is_grid;
-    }) outs (meaning_of program pairs) left (outputs-meant types ds pairs (arrays_of pairs program) program 0 [] base program (arrays_of pairs program) meant))
+    }) outs (meaning_of program pairs) left
+    (outputs-meant types ds pairs (arrays_of pairs program) program 0 [] base program (arrays_of pairs program) meant))
