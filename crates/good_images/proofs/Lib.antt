@@ -1,0 +1,2 @@
+pub mod FirstInputs
+pub mod Tables
