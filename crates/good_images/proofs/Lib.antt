@@ -1,2 +1,3 @@
 pub mod FirstInputs
 pub mod Tables
+pub mod Images
