@@ -1,0 +1,5 @@
+pub mod Runs
+pub mod Bytes
+pub mod Lower
+pub mod Lists
+pub mod Goods
