@@ -18,10 +18,10 @@ use Rattle.expr_split.specs.Places.{IsSplitOf}
 use Rattle.dma_schedule.specs.Laws.{KeepsInside}
 use Rattle.dma_schedule.specs.PipeList.{pipe_list}
 use Rattle.good_images.specs.Good.{Good, HasGoodList, Given, IsGiven, EndsWell}
-use Rattle.good_images.specs.Laws.{IsCodeFor, image_with, TheyAreImages, TheyAreGood, TablesFit, FittingArraysAreInputs, GoodRunsHalt}
+use Rattle.good_images.specs.Laws.{IsCodeFor, image_with, TheyAreImages, TheyAreGood, GoodRunsHalt}
 use Rattle.good_images.proofs.Lower.{LowerLaws}
 use Rattle.good_images.proofs.Runs.{first_of, ends_well, as_many_steps}
-use Rattle.good_images.proofs.Lists.{FirstInputs, first_size, lists_leave_outputs}
+use Rattle.good_images.proofs.Lists.{first_size, lists_leave_outputs}
 
 -- what keeps inside the split's scratchpad and memory is in order in a store that is no smaller
 in_order : (split : Split) (spad : ℕ) (store : Store) (list : List Issue) → spad ≤ length store.cells → split.memory ≤ length store.memory → All (KeepsInside split spad) list
@@ -30,7 +30,7 @@ in_order split spad store list cells memory keep k d below =
     let here = keep k d below in
     in_order_in_larger (record { cells = spad; memory = split.memory }) (store_size store) (get_or list k d) cells memory (record { counts = here.counts; in_range = here.inside })
 
-module _ (laws : LowerLaws) (images : TheyAreImages) (held : FirstInputs) (fits : TablesFit) (are_inputs : FittingArraysAreInputs) where
+module _ (laws : LowerLaws) (images : TheyAreImages) where
   module _ (program : List Statement) (split : Split) (spad : ℕ) (code : Listing) (checked : IsCheckedProgram program) (is_split : IsSplitOf program split)
       (enough : need_of split.passes ≤ spad) (few : spad ≤ cell_limit) (is_code : IsCodeFor split spad code) where
     sound : IsSound split
@@ -59,13 +59,13 @@ module _ (laws : LowerLaws) (images : TheyAreImages) (held : FirstInputs) (fits 
     ends given grants is_given =
         let image = image_with split spad code in
         let is_image = images program split spad code checked is_split enough few is_code in
-        let size = first_size laws held fits are_inputs program split spad code checked is_split is_image given is_given in
+        let size = first_size laws program split spad code checked is_split is_image given is_given in
         let some : 0 < given.lanes = omega (arith, is_given.some_lanes) in
         ends_well laws.halts program image (bound_of split.passes) given grants (is_code.steps + 1) (pipe_list split spad) some disciplined
         (in_order split spad (first_of image given) (pipe_list split spad) (omega (arith, ap (λ (s : Size). s.cells) size, is_given.enough)) (omega (arith, ap (λ (s : Size). s.memory) size))
         (laws.inside split spad sound enough small))
         (is_code.within given.lanes some)
-        (lists_leave_outputs laws images held fits are_inputs program split spad code checked is_split enough few is_code given is_given)
+        (lists_leave_outputs laws images program split spad code checked is_split enough few is_code given is_given)
 
   pub they_are_good : TheyAreGood
   they_are_good program split spad code checked is_split enough few is_code =

@@ -41,18 +41,8 @@ use Rattle.good_images.specs.Laws.{image_with, TheyAreImages, ListsLeaveOutputs,
 use Rattle.good_images.proofs.Bytes.{has_array, place_of, array_there}
 use Rattle.good_images.proofs.Lower.{LowerLaws}
 use Rattle.good_images.proofs.Runs.{first_of, setting_of}
-
--- ---- the inputs in the first memory
-
--- the first memory holds an input's bytes
-abbrev pub FirstInputs : Type 0
-FirstInputs =
-    (image : ImageContents) (inputs : Pairs) (spad : ℕ) → IsImage image → ArePairs inputs → Fits inputs image.arrays
-    → (k : ℕ) (entry : Entry) (grid : Grid) → IsInput image.arrays k entry → array_named inputs entry.name ≡ Some grid
-    → part (start_state image inputs spad).store.memory entry.place (length (array_bytes grid)) ≡ array_bytes grid
-
-named_grid : (pairs : Pairs) (name : List ℕ) (grid : Grid) → ArePairs pairs → array_named pairs name ≡ Some grid → IsGrid grid
-named_grid pairs name grid are found = subst (λ slot. IfSome slot IsGrid) found (IfSome-lookup_from_All IsGrid (bytes_eq name) pairs are.arrays)
+use Rattle.good_images.proofs.FirstInputs.{first_inputs}
+use Rattle.good_images.proofs.Tables.{named_grid, tables_fit, inputs_fit}
 
 -- ---- one source
 
@@ -93,14 +83,14 @@ module _ (split : Split) (inputs : Pairs) (are : ArePairs inputs) (fit : Fits in
 abbrev pub arrays_of : List Statement → Given → Arrays
 arrays_of program given = first_arrays (input_grids given.inputs program)
 
-module _ (laws : LowerLaws) (held : FirstInputs) (fits : TablesFit) (are_inputs : FittingArraysAreInputs) where
+module _ (laws : LowerLaws) where
   module _ (program : List Statement) (split : Split) (spad : ℕ) (code : Listing) (checked : IsCheckedProgram program) (is_split : IsSplitOf program split)
       (is_image : IsImage (image_with split spad code)) (given : Given) (is_given : IsGiven program spad given) where
     pub fits_table : Fits given.inputs split.table
-    fits_table = fits program split.table given.inputs (laws.declared program split checked is_split) is_given.fit
+    fits_table = tables_fit program split.table given.inputs (laws.declared program split checked is_split) is_given.fit
 
     pub are_given : FitInputs program given.inputs
-    are_given = are_inputs program given.inputs is_given.arrays is_given.fit
+    are_given = inputs_fit program given.inputs is_given.arrays is_given.fit
 
     pub first_size : store_size (first_of (image_with split spad code) given) ≡ record { cells = given.spad; memory = split.memory }
     first_size = laws.sizes (setting_of (image_with split spad code) 0 given) is_image is_given.arrays fits_table
@@ -116,7 +106,7 @@ module _ (laws : LowerLaws) (held : FirstInputs) (fits : TablesFit) (are_inputs 
         let from = source k known unmade in
         let inside = source_inside split given.inputs is_given.arrays fits_table k array from image is_image refl in
         source_stands split given.inputs is_given.arrays fits_table k array from (first_of image given) (omega (arith, inside, ap (λ (s : Size). s.memory) first_size))
-        (held image given.inputs given.spad is_image is_given.arrays fits_table from.k from.entry array (record { stands = from.there; input = from.input }) from.is)
+        (first_inputs image given.inputs given.spad is_image is_given.arrays fits_table from.k from.entry array (record { stands = from.there; input = from.input }) from.is)
 
     pub holds_sources : HoldsSources split spad (arrays_of program given) (first_of (image_with split spad code) given)
     holds_sources = record {
@@ -145,7 +135,7 @@ outputs_there split arrays store (entry ∷ entries) (output ∷ outputs) left h
     ap (λ (p : List ℕ × Grid). p ∷ map (λ entry. (entry.name, array_in store.memory entry)) entries) (output_there split arrays store entry output left.0 has)
     ∙ ap (λ (l : Pairs). output ∷ l) (outputs_there split arrays store entries outputs left.1 has)
 
-module _ (laws : LowerLaws) (images : TheyAreImages) (held : FirstInputs) (fits : TablesFit) (are_inputs : FittingArraysAreInputs) where
+module _ (laws : LowerLaws) (images : TheyAreImages) where
   pub lists_leave_outputs : ListsLeaveOutputs
   lists_leave_outputs program split spad code checked is_split enough few is_code given is_given =
       let is_image = images program split spad code checked is_split enough few is_code in
@@ -153,6 +143,6 @@ module _ (laws : LowerLaws) (images : TheyAreImages) (held : FirstInputs) (fits 
       let store = first_of (image_with split spad code) given in
       let after = sequential (pipe_list split spad) given.lanes store in
       outputs_there split (arrays_after split.passes arrays) after (filter (λ (entry : Entry). entry.output) split.table) (meaning_of program given.inputs)
-      (laws.outputs program split given.inputs checked (are_given laws held fits are_inputs program split spad code checked is_split is_image given is_given) is_split)
+      (laws.outputs program split given.inputs checked (are_given laws program split spad code checked is_split is_image given is_given) is_split)
       (laws.leave split spad (laws.sound program split checked is_split) enough (omega (arith, few)) arrays given.lanes store (omega (arith, is_given.some_lanes))
-      (holds_sources laws held fits are_inputs program split spad code checked is_split is_image given is_given))
+      (holds_sources laws program split spad code checked is_split is_image given is_given))
