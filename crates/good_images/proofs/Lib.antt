@@ -1,3 +1,5 @@
+pub mod Tables
+pub mod FirstInputs
 pub mod Runs
 pub mod Bytes
 pub mod Lower
