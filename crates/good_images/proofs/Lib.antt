@@ -1,3 +1,8 @@
 pub mod FirstInputs
 pub mod Tables
 pub mod Images
+pub mod Runs
+pub mod Bytes
+pub mod Lower
+pub mod Lists
+pub mod Goods
