@@ -1,5 +1,5 @@
 -- The first memory holds the inputs at their places.
-use Rattle.std.proofs.Common.{◌≡◌, ◌⊎◌, inl, inr, ℕ, zero, suc, ◌+◌, ◌<◌, ◌≤◌, ap, sym, ◌∙◌, refl, subst, arith, Bool, true, false, cond, List, [], ◌∷◌, length, drop, get_or, Option, Some, None, slice_get, replicate, map, take, ◌&&◌}
+use Rattle.std.proofs.Common.{◌≡◌, ◌⊎◌, inl, inr, ℕ, zero, suc, ◌+◌, ◌<◌, ◌≤◌, ap, sym, ◌∙◌, refl, subst, arith, Bool, true, false, cond, List, [], ◌∷◌, length, drop, get_or, Option, Some, None, slice_get, replicate, take, ◌&&◌}
 use Rattle.std.specs.Option.{IsSomeAnd, option_map}
 use Rattle.std.proofs.Math.Dec.{ltb}
 use Rattle.std.proofs.lemmas.Bool.{cases_lt, lt-ltb}
@@ -9,7 +9,7 @@ use Rattle.std.proofs.lemmas.Option.{slice_get-map, slice_get_within, get_or_fro
 use Rattle.ven_base.specs.declared.entry.Entry.{Entry}
 use Rattle.ven_base.specs.Grid.{Grid}
 use Rattle.ven_base.specs.Pairs.{Pairs, ArePairs, array_named}
-use Rattle.venice_isa.specs.Cell.{part, overwritten}
+use Rattle.venice_isa.specs.Cell.{part}
 use Rattle.venice_isa.proofs.Overwrites.{overwritten_length, overwritten_below, overwritten_in, overwritten_above}
 use Rattle.array_file.specs.Fitting.{IsInput, Fits}
 use Rattle.image_loader.specs.Table.{array_bytes as table_bytes, EntryField, RawEntry, BreaksEntry, share_byte}
@@ -33,7 +33,8 @@ put_length : (output : Bool) (found : Option Grid) (place count : ℕ) (memory :
     → length (put output found place memory) ≡ length memory
 put_length true found place count memory puts inside = refl
 put_length false None place count memory puts inside = refl
-put_length false (Some grid) place count memory puts inside = overwritten_length memory place (array_bytes grid) (omega (arith, puts.counted grid refl refl, inside))
+put_length false (Some grid) place count memory puts inside =
+    overwritten_length memory place (array_bytes grid) (omega (arith, puts.counted grid refl refl, inside))
 
 put_kept : (output : Bool) (found : Option Grid) (place count p : ℕ) (memory : List ℕ) → Puts output found count → place + count ≤ length memory
     → (p < place) ⊎ (place + count ≤ p) → get_or (put output found place memory) p 0 ≡ get_or memory p 0
@@ -85,9 +86,11 @@ module _ (inputs : Pairs) where
       → Puts entry.output (array_named inputs entry.name) (table_bytes (raw_entry entry))
   first_puts size entry table stand = record { counted = λ grid input is. stand.sized 0 entry grid (record { stands = refl; input = input }) is }
 
-  behind_length : (entry : Entry) (table : List Entry) (memory : List ℕ) → CanStand (length memory) inputs (entry ∷ table) → length (behind entry memory) ≡ length memory
+  behind_length : (entry : Entry) (table : List Entry) (memory : List ℕ) → CanStand (length memory) inputs (entry ∷ table)
+      → length (behind entry memory) ≡ length memory
   behind_length entry table memory stand =
-      put_length entry.output (array_named inputs entry.name) entry.place (table_bytes (raw_entry entry)) memory (first_puts (length memory) entry table stand)
+      put_length entry.output (array_named inputs entry.name) entry.place (table_bytes (raw_entry entry)) memory
+      (first_puts (length memory) entry table stand)
       (stand.inside 0 entry refl)
 
   behind_stands : (entry : Entry) (table : List Entry) (memory : List ℕ) → CanStand (length memory) inputs (entry ∷ table)
@@ -102,15 +105,18 @@ module _ (inputs : Pairs) where
 
   -- a byte that lies in none of the arrays
   others_kept : (table : List Entry) (memory : List ℕ) (p : ℕ) → CanStand (length memory) inputs table
-      → ((k : ℕ) (entry : Entry) → slice_get table k ≡ Some entry → (p < entry.place) ⊎ (end_at entry ≤ p)) → get_or (with_inputs table inputs memory) p 0 ≡ get_or memory p 0
+      → ((k : ℕ) (entry : Entry) → slice_get table k ≡ Some entry → (p < entry.place) ⊎ (end_at entry ≤ p))
+      → get_or (with_inputs table inputs memory) p 0 ≡ get_or memory p 0
   others_kept [] memory p stand past = refl
   others_kept (entry ∷ table) memory p stand past =
       others_kept table (behind entry memory) p (behind_stands entry table memory stand) (λ k e there. past (suc k) e there)
-      ∙ put_kept entry.output (array_named inputs entry.name) entry.place (table_bytes (raw_entry entry)) p memory (first_puts (length memory) entry table stand)
+      ∙ put_kept entry.output (array_named inputs entry.name) entry.place (table_bytes (raw_entry entry)) p memory
+      (first_puts (length memory) entry table stand)
       (stand.inside 0 entry refl) (past 0 entry refl)
 
   -- a byte of the first entry's array is in none of the later ones
-  past_first : (size b : ℕ) (entry : Entry) (table : List Entry) → CanStand size inputs (entry ∷ table) → b < table_bytes (raw_entry entry) → (k : ℕ) (other : Entry)
+  past_first : (size b : ℕ) (entry : Entry) (table : List Entry) → CanStand size inputs (entry ∷ table) → b < table_bytes (raw_entry entry)
+      → (k : ℕ) (other : Entry)
       → slice_get table k ≡ Some other → (entry.place + b < other.place) ⊎ (end_at other ≤ entry.place + b)
   past_first size b entry table stand below k other there =
       elim (stand.apart 0 (suc k) entry other (omega arith) refl there) [
@@ -118,7 +124,8 @@ module _ (inputs : Pairs) where
         | inr after ↦ inr (omega (arith, after))
       ]
 
-  first_stands : (entry : Entry) (table : List Entry) (memory : List ℕ) (grid : Grid) (b : ℕ) → CanStand (length memory) inputs (entry ∷ table) → entry.output ≡ false
+  first_stands : (entry : Entry) (table : List Entry) (memory : List ℕ) (grid : Grid) (b : ℕ) → CanStand (length memory) inputs (entry ∷ table)
+      → entry.output ≡ false
       → array_named inputs entry.name ≡ Some grid → b < length (array_bytes grid)
       → get_or (with_inputs (entry ∷ table) inputs memory) (entry.place + b) 0 ≡ get_or (array_bytes grid) b 0
   first_stands entry table memory grid b stand input named below =
@@ -128,7 +135,8 @@ module _ (inputs : Pairs) where
       (past_first (length memory) b entry table stand (omega (arith, counted, below)))
       ∙ put_in entry.output (array_named inputs entry.name) grid entry.place b memory input named (omega (arith, counted, inside)) below
 
-  one_stands : (table : List Entry) (memory : List ℕ) (k : ℕ) (entry : Entry) (grid : Grid) (b : ℕ) → CanStand (length memory) inputs table → IsInput table k entry
+  one_stands : (table : List Entry) (memory : List ℕ) (k : ℕ) (entry : Entry) (grid : Grid) (b : ℕ) → CanStand (length memory) inputs table
+      → IsInput table k entry
       → array_named inputs entry.name ≡ Some grid → b < length (array_bytes grid)
       → get_or (with_inputs table inputs memory) (entry.place + b) 0 ≡ get_or (array_bytes grid) b 0
   one_stands [] memory k entry grid b stand is named below = let none = is.stands in cc
@@ -140,10 +148,12 @@ module _ (inputs : Pairs) where
       ap (λ (e : Entry). get_or (with_inputs (first ∷ table) inputs memory) (e.place + b) 0) (sym same)
       ∙ first_stands first table memory grid b stand input found below
   one_stands (first ∷ table) memory (suc k) entry grid b stand is named below =
-      one_stands table (behind first memory) k entry grid b (behind_stands first table memory stand) (record { stands = is.stands; input = is.input }) named below
+      one_stands table (behind first memory) k entry grid b (behind_stands first table memory stand)
+      (record { stands = is.stands; input = is.input }) named below
 
   -- the bytes of an input stand at its entry's place
-  pub input_stands : (table : List Entry) (memory : List ℕ) (k : ℕ) (entry : Entry) (grid : Grid) → CanStand (length memory) inputs table → IsInput table k entry
+  pub input_stands : (table : List Entry) (memory : List ℕ) (k : ℕ) (entry : Entry) (grid : Grid) → CanStand (length memory) inputs table
+      → IsInput table k entry
       → array_named inputs entry.name ≡ Some grid
       → part (with_inputs table inputs memory) entry.place (length (array_bytes grid)) ≡ array_bytes grid
   input_stands table memory k entry grid stand is named =
@@ -155,10 +165,10 @@ module _ (inputs : Pairs) where
       let room : length bytes ≤ length (drop entry.place whole) = omega (arith, length-drop entry.place whole, counted, inside, long) in
       let count : length (part whole entry.place (length bytes)) ≡ length bytes = length-take-le (length bytes) (drop entry.place whole) room in
       ext_get_or 0 (part whole entry.place (length bytes)) bytes count (λ b below.
-        let lower : b < length bytes = omega (arith, count, below) in
-        get_or-take (length bytes) (drop entry.place whole) b 0 lower
-        ∙ get_or-drop entry.place whole b 0
-        ∙ one_stands table memory k entry grid b stand is named lower)
+      let lower : b < length bytes = omega (arith, count, below) in
+      get_or-take (length bytes) (drop entry.place whole) b 0 lower
+      ∙ get_or-drop entry.place whole b 0
+      ∙ one_stands table memory k entry grid b stand is named lower)
 
 -- ---- the inputs of an image
 
@@ -179,7 +189,8 @@ module _ (image : ImageContents) (is_image : IsImage image) where
       subst (λ (e : Entry). end_at e ≤ image.memory) (get_or_from_slice_get image.arrays k entry entry there)
       (stand_in image is_image k entry (slice_get_within image.arrays k entry there))
 
-  shares_none : (i j : ℕ) (a b : Entry) → i < j → slice_get image.arrays i ≡ Some a → slice_get image.arrays j ≡ Some b → share_byte (raw_entry b) (raw_entry a) ≡ true → ⊥
+  shares_none : (i j : ℕ) (a b : Entry) → i < j → slice_get image.arrays i ≡ Some a → slice_get image.arrays j ≡ Some b
+      → share_byte (raw_entry b) (raw_entry a) ≡ true → ⊥
   shares_none i j a b before there other share =
       let below : j < length raws = slice_get_within raws j (raw_entry b) (raw_there j b other) in
       let lower : i < length (take j raws) = omega (arith, length-take-le j raws (omega (arith, below)), before) in
@@ -210,7 +221,8 @@ module _ (image : ImageContents) (is_image : IsImage image) where
   }
 
 -- before the first cycle the bytes of each input stand at its entry's place
-pub first_inputs : (image : ImageContents) (inputs : Pairs) (spad : ℕ) → IsImage image → ArePairs inputs → Fits inputs image.arrays → (k : ℕ) (entry : Entry) (grid : Grid)
+pub first_inputs : (image : ImageContents) (inputs : Pairs) (spad : ℕ) → IsImage image → ArePairs inputs → Fits inputs image.arrays
+    → (k : ℕ) (entry : Entry) (grid : Grid)
     → IsInput image.arrays k entry → array_named inputs entry.name ≡ Some grid
     → part (start_state image inputs spad).store.memory entry.place (length (array_bytes grid)) ≡ array_bytes grid
 first_inputs image inputs spad is_image pairs fits k entry grid is named =

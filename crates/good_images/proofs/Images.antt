@@ -16,12 +16,12 @@ use Rattle.ven_base.specs.declared.entry.Entry.{Entry}
 use Rattle.ven_base.specs.Elem.{size_of}
 use Rattle.ven_base.specs.Extent.{IsExtent, elements_of}
 use Rattle.ven_base.specs.Limits.{cell_limit}
-use Rattle.ven_base.specs.Name.{IsName, name_limit}
+use Rattle.ven_base.specs.Name.{IsName}
 use Rattle.venice_isa.specs.Code.{Listing}
 use Rattle.venice_isa.specs.Encoding.{bit, type_number}
 use Rattle.image_loader.specs.declared.table.EntryPart.{EntryPart}
 use Rattle.image_loader.specs.declared.table.EntryPart.TheVariants.{NameLength, NameBytes, Kind, ElementType, Rows, Columns, Place}
-use Rattle.image_loader.specs.Image.{raw_entry, raw_entries, header_of, IsImage, IsTable}
+use Rattle.image_loader.specs.Image.{raw_entry, raw_entries, header_of, IsTable}
 use Rattle.image_loader.specs.Table.{Header, RawEntry, HeaderPart, Spad, Memory, Arrays, Instrs, HeaderField, EntryField, LiesIn, least_of, most_of, header_number, elem_of, array_bytes, share_byte, names_of as raw_names_of, BreaksEntry, IsRight}
 use Rattle.shape_check.specs.Checked.{IsCheckedProgram}
 use Rattle.shape_check.specs.Statement.{Statement, Input, Let, Output, names_of}
@@ -114,7 +114,8 @@ LieApart entry other = (other.place + array_bytes (raw_entry other) ≤ entry.pl
 
 none_shared : (entry other : Entry) → LieApart entry other → share_byte (raw_entry entry) (raw_entry other) ≡ true → ⊥
 none_shared entry other apart share =
-    let both = both_true (ltb other.place (entry.place + array_bytes (raw_entry entry))) (ltb entry.place (other.place + array_bytes (raw_entry other))) share in
+    let both =
+    both_true (ltb other.place (entry.place + array_bytes (raw_entry entry))) (ltb entry.place (other.place + array_bytes (raw_entry other))) share in
     let under = ltb-true other.place (entry.place + array_bytes (raw_entry entry)) both.0 in
     let over = ltb-true entry.place (other.place + array_bytes (raw_entry other)) both.1 in
     elim apart [ inl before ↦ absurd (omega (arith, before, over)) | inr behind ↦ absurd (omega (arith, behind, under)) ]
@@ -142,14 +143,15 @@ module _ (memory : ℕ) (earlier : List Entry) (entry : Entry) (good : IsGoodEnt
       let lower : has.0 < length (raw_entries earlier) = omega (arith, below, longer) in
       behind.names has.0 below
       (sym (get_or-map (λ (e : RawEntry). e.name) (raw_entries earlier) has.0 (raw_entry entry) entry.name lower
-        ∙ ap (λ (e : RawEntry). e.name) (get_or-map raw_entry earlier has.0 entry (raw_entry entry) below)) ∙ has.2)
+      ∙ ap (λ (e : RawEntry). e.name) (get_or-map raw_entry earlier has.0 entry (raw_entry entry) below)) ∙ has.2)
 
   place_free : list_any (share_byte (raw_entry entry)) (raw_entries earlier) ≡ true → ⊥
   place_free any =
       let found = Any-from_list_any (share_byte (raw_entry entry)) (raw_entries earlier) any in
       let longer = length-map earlier raw_entry in
       let below : found.0 < length earlier = omega (arith, found.2, longer) in
-      let there : get_or (raw_entries earlier) found.0 found.1 ≡ raw_entry (get_or earlier found.0 entry) = get_or-map raw_entry earlier found.0 entry found.1 below in
+      let there : get_or (raw_entries earlier) found.0 found.1 ≡ raw_entry (get_or earlier found.0 entry) =
+      get_or-map raw_entry earlier found.0 entry found.1 below in
       none_shared entry (get_or earlier found.0 entry) (behind.apart found.0 below)
       (ap (share_byte (raw_entry entry)) (sym there ∙ found.3) ∙ found.4)
 
@@ -185,7 +187,8 @@ module _ (header : Header) (entries : List Entry) (lie : (part : HeaderPart) →
   is_table (HeaderField part) breaks = breaks (lie part)
   is_table (EntryField k part) breaks =
       keeps_part k part (slice_get entries k) refl
-      (subst (λ (o : Option RawEntry). IsSomeAnd o (λ raw. BreaksEntry header.memory (take k (raw_entries entries)) raw part)) (slice_get-map raw_entry entries k) breaks)
+      (subst (λ (o : Option RawEntry). IsSomeAnd o (λ raw. BreaksEntry header.memory (take k (raw_entries entries)) raw part))
+      (slice_get-map raw_entry entries k) breaks)
 
 -- ---- entries by their arrays
 
@@ -195,7 +198,8 @@ record HasNumber (split : Split) (numbers : List ℕ) (k : ℕ) (entry : Entry) 
   there : slice_get numbers k ≡ Some number
   stands : StandsAt split entry number
 
-number_at : (split : Split) (table : List Entry) (numbers : List ℕ) (k : ℕ) (entry : Entry) → AllZip (StandsAt split) table numbers → slice_get table k ≡ Some entry
+number_at : (split : Split) (table : List Entry) (numbers : List ℕ) (k : ℕ) (entry : Entry) → AllZip (StandsAt split) table numbers
+    → slice_get table k ≡ Some entry
     → HasNumber split numbers k entry
 number_at split [] numbers k entry zip there = cc
 number_at split (first ∷ table) [] k entry zip there = absurd zip
@@ -212,7 +216,8 @@ module _ (split : Split) (sound : IsSound split) where
   entry_shaped entry number stands = subst (λ (place : ArrayPlace). IsExtent place.shape) stands.is (sound.placed.shaped number no_place stands.known)
 
   -- where the entry's array ends
-  end_is : (entry : Entry) (number : ℕ) → StandsAt split entry number → end_of (get_or split.arrays number no_place) ≡ entry.place + array_bytes (raw_entry entry)
+  end_is : (entry : Entry) (number : ℕ) → StandsAt split entry number
+      → end_of (get_or split.arrays number no_place) ≡ entry.place + array_bytes (raw_entry entry)
   end_is entry number stands = ap end_of stands.is ∙ ap (λ n. entry.place + n) (sym (bytes_are entry))
 
   entry_inside : (entry : Entry) (number : ℕ) → StandsAt split entry number → entry.place + array_bytes (raw_entry entry) ≤ split.memory
@@ -235,10 +240,10 @@ module _ (split : Split) (sound : IsSound split) where
       elim (cases_lt a b) [
         | inl before ↦ ordered_apart entry other a b stands stands_too before
         | inr from ↦
-          elim (cases_lt b a) [
-            | inl behind ↦ elim (ordered_apart other entry b a stands_too stands behind) [ inl first ↦ inr first | inr second ↦ inl second ]
-            | inr to ↦ absurd (differ (omega (arith, from, to)))
-          ]
+            elim (cases_lt b a) [
+              | inl behind ↦ elim (ordered_apart other entry b a stands_too stands behind) [ inl first ↦ inr first | inr second ↦ inl second ]
+              | inr to ↦ absurd (differ (omega (arith, from, to)))
+            ]
       ]
 
 module _ (program : List Statement) (split : Split) (checked : IsCheckedProgram program) (sound : IsSound split)
@@ -263,7 +268,8 @@ module _ (program : List Statement) (split : Split) (checked : IsCheckedProgram 
       let here = subst (λ (l : List (List ℕ)). All IsName l) (sym same_names) names k entry.name (named_below k entry there) in
       subst IsName (named_at k entry.name entry there) here
 
-  names_differ : (i k : ℕ) (other entry : Entry) → i < k → slice_get split.table i ≡ Some other → slice_get split.table k ≡ Some entry → other.name ≢ entry.name
+  names_differ : (i k : ℕ) (other entry : Entry) → i < k → slice_get split.table i ≡ Some other → slice_get split.table k ≡ Some entry
+      → other.name ≢ entry.name
   names_differ i k other entry before there here same =
       let pairs = pairs_declared (λ a b. a ≢ b) program checked.distinct in
       subst (λ (l : List (List ℕ)). AllPairs (λ a b. a ≢ b) l) (sym same_names) pairs i k entry.name before (named_below k entry here)
@@ -301,16 +307,24 @@ module _ (program : List Statement) (split : Split) (checked : IsCheckedProgram 
 
   behind_at : (k : ℕ) (entry : Entry) → slice_get split.table k ≡ Some entry → IsBehind (take k split.table) entry
   behind_at k entry there = record {
-    names = λ i lower. let earlier = earlier_at k i entry there lower in names_differ i k (get_or (take k split.table) i entry) entry earlier.0 earlier.1 there;
-    apart = λ i lower. let earlier = earlier_at k i entry there lower in entries_apart i k (get_or (take k split.table) i entry) entry earlier.0 earlier.1 there;
+    names = λ i lower.
+        let earlier = earlier_at k i entry there lower in
+        names_differ i k (get_or (take k split.table) i entry) entry earlier.0 earlier.1 there;
+    apart = λ i lower.
+        let earlier = earlier_at k i entry there lower in
+        entries_apart i k (get_or (take k split.table) i entry) entry earlier.0 earlier.1 there;
   }
 
 module _ (sound : SplitsAreSound) (needs : NeedsAreSome) (declared : TablesAreDeclared) (arrays : EntriesAreArrays) where
-  header_lies : (program : List Statement) (split : Split) (spad : ℕ) (code : Listing) → IsCheckedProgram program → IsSplitOf program split → need_of split.passes ≤ spad
+  header_lies : (program : List Statement) (split : Split) (spad : ℕ) (code : Listing) → IsCheckedProgram program → IsSplitOf program split
+      → need_of split.passes ≤ spad
       → spad ≤ cell_limit → IsCodeFor split spad code → (part : HeaderPart)
       → LiesIn (least_of part) (most_of part) (header_number (header_of (image_with split spad code)) part)
   header_lies program split spad code checked is enough few is_code Spad = record { from = omega (arith, needs program split checked is, enough); to = few }
-  header_lies program split spad code checked is enough few is_code Memory = record { from = omega arith; to = (sound program split checked is).placed.within }
+  header_lies program split spad code checked is enough few is_code Memory = record {
+    from = omega arith;
+    to = (sound program split checked is).placed.within;
+  }
   header_lies program split spad code checked is enough few is_code Arrays = record {
     from = omega arith;
     to = table_few program split checked (sound program split checked is) (declared program split checked is) (arrays program split checked is);
@@ -326,6 +340,6 @@ module _ (sound : SplitsAreSound) (needs : NeedsAreSome) (declared : TablesAreDe
         table =
             is_table (header_of (image_with split spad code)) split.table (header_lies program split spad code checked is enough few is_code)
             (λ k entry there. entry_right split.memory (take k split.table) entry (good_at program split checked is_sound is_declared numbers k entry there)
-              (behind_at program split checked is_sound is_declared numbers k entry there));
+            (behind_at program split checked is_sound is_declared numbers k entry there));
         code = is_code.is_code;
       }

@@ -1,5 +1,5 @@
 -- A program's table has the program's inputs, so that arrays which fit these fit the table, and are inputs of the program.
-use Rattle.std.proofs.Common.{◌≡◌, ℕ, zero, suc, ◌<◌, List, [], ◌∷◌, length, map, get_or, refl, sym, ap, ◌∙◌, arith, true, false, Contains, Option, Some, IfSome, slice_get, subst}
+use Rattle.std.proofs.Common.{◌≡◌, ℕ, zero, suc, List, [], ◌∷◌, map, refl, sym, ap, ◌∙◌, arith, false, Contains, Option, Some, IfSome, slice_get, subst}
 use Rattle.std.specs.Option.{option_map}
 use Rattle.std.proofs.lemmas.List.{get_or-map, length-map}
 use Rattle.std.proofs.lemmas.Option.{slice_get-map}
@@ -29,7 +29,8 @@ named_grid pairs name grid are found =
 abbrev HasEntry : Pairs → Entry → Type 0
 HasEntry arrays entry = (grid : Grid) × HasArrayFor arrays entry grid × (grid.elem ≡ entry.elem) × (grid.shape ≡ entry.shape)
 
-entries_fit : (program : List Statement) (arrays : Pairs) → ArePairs arrays → ((k : ℕ) (entry : Entry) → IsInput (input_table program) k entry → HasEntry arrays entry) → FitInputs program arrays
+entries_fit : (program : List Statement) (arrays : Pairs) → ArePairs arrays
+    → ((k : ℕ) (entry : Entry) → IsInput (input_table program) k entry → HasEntry arrays entry) → FitInputs program arrays
 entries_fit [] arrays are has = tt
 entries_fit (Input name elem shape ∷ more) arrays are has =
     let entry : Entry = record { name = name; output = false; elem = elem; shape = shape; place = 0 } in
@@ -96,7 +97,8 @@ placed_at (first ∷ table) (suc k) entry there =
     let later = placed_at table k entry there in
     record { k = suc later.k; placed = later.placed; there = later.there; is = later.is }
 
-module _ (program : List Statement) (table : List Entry) (arrays : Pairs) (declared : map unplaced table ≡ declared_table program) (fits : Fits arrays (input_table program)) where
+module _ (program : List Statement) (table : List Entry) (arrays : Pairs) (declared : map unplaced table ≡ declared_table program)
+    (fits : Fits arrays (input_table program)) where
   entry_fits : (k : ℕ) (entry : Entry) → IsInput table k entry → HasEntry arrays entry
   entry_fits k entry is =
       let there : slice_get (declared_table program) k ≡ Some (unplaced entry) =

@@ -3,7 +3,7 @@
 ghost use Rattle.good_images.specs.Laws.{TheyAreImages, TheyAreGood, ListsLeaveOutputs, TablesFit, FittingArraysAreInputs, GoodRunsHalt};
 
 use dma_schedule::list_laws;
-use expr_split::{meaning_law, size_laws, split_laws, table_laws};
+use expr_split::{size_laws, split_laws, table_laws};
 use overlap_law::laws::{finishing, no_hazard, same_steps};
 
 /// The image of a split and of code for it is an image, and a good one; done one after another its list leaves the
@@ -14,7 +14,6 @@ pub fn good_laws()
     ensures leave { ListsLeaveOutputs }
     ensures halt { GoodRunsHalt }
 {
-    meaning_law();
     split_laws();
     size_laws();
     table_laws();
