@@ -1,6 +1,5 @@
 -- The bytes of an array in memory, as the machine counts them and as the compiler does.
 use Rattle.std.proofs.Common.{◌≡◌, ℕ, pos, ℤ, ◌+◌, ◌*◌, ◌-◌, ◌<◌, ◌≤◌, ap, sym, ◌∙◌, refl, subst, arith, false, List, length, take, drop, get_or, map, slice_get, Option, Some, None}
-use Rattle.std.specs.Prelude.{All}
 use Rattle.std.specs.List.{flat_map, range_with_len}
 use Rattle.std.specs.Option.{option_map}
 use Rattle.std.proofs.lemmas.List.{ext_get_or, get_or-take, get_or-drop, length-take-le, length-drop}
@@ -12,18 +11,17 @@ use Rattle.ven_base.specs.declared.elem.Elem.{Elem}
 use Rattle.ven_base.specs.declared.elem.Elem.TheVariants.{U8, I8, U16, I16, U32, I32}
 use Rattle.ven_base.specs.declared.entry.Entry.{Entry}
 use Rattle.ven_base.specs.Elem.{size_of, IsElement}
-use Rattle.ven_base.specs.Extent.{Extent, elements_of}
+use Rattle.ven_base.specs.Extent.{elements_of}
 use Rattle.ven_base.specs.Grid.{Grid, IsGrid}
 use Rattle.ven_base.specs.Operation.{bits_of}
-use Rattle.ven_base.specs.Store.{Store, in_memory}
+use Rattle.ven_base.specs.Store.{Store}
 use Rattle.venice_isa.specs.Cell.{byte_of, part}
-use Rattle.venice_isa.specs.Element.{bytes_of, low_bytes, number_of}
+use Rattle.venice_isa.specs.Element.{bytes_of, number_of}
 use Rattle.venice_isa.proofs.Spellings.{low_bytes_length, bytes_spell}
 use Rattle.venice_machine.specs.Start.{array_bytes, array_in, element_in}
 use Rattle.venice_machine.proofs.Stretches.{bytes_length}
 use Rattle.pass_plan.specs.declared.split.ArrayPlace.{ArrayPlace}
-use Rattle.pass_plan.specs.Buffers.{byte_of_value, IsArrayByte}
-use Rattle.dma_segments.specs.Effect.{HasByte}
+use Rattle.pass_plan.specs.Buffers.{byte_of_value}
 use Rattle.dma_segments.specs.Laws.{HasArray}
 use Rattle.dma_segments.proofs.Values.{low_byte, array_has}
 
@@ -102,8 +100,8 @@ has_within memory p byte has = by (slice_get memory p) refl has
     by None is h = absurd (cc)
     by (Some x) is h = slice_get_within memory p x is
 
-module _ (entry : Entry) (array : Grid) (store : Store) (has : HasArray (place_of entry) array store) (is_grid : IsGrid array) (elem_is : array.elem ≡ entry.elem)
-    (shape_is : array.shape ≡ entry.shape) where
+module _ (entry : Entry) (array : Grid) (store : Store) (has : HasArray (place_of entry) array store) (is_grid : IsGrid array)
+    (elem_is : array.elem ≡ entry.elem) (shape_is : array.shape ≡ entry.shape) where
   module _ (k : ℕ) (within : k < length array.values) where
     abbrev value : ℤ
     value = get_or array.values k (pos 0)
