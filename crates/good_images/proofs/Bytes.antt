@@ -124,11 +124,11 @@ module _ (entry : Entry) (array : Grid) (store : Store) (has : HasArray (place_o
         let long = part_length store.memory start size element_inside in
         ext_get_or 0 (part store.memory start size) (bytes_of entry.elem value) (long ∙ sym (low_bytes_length size (bits_of entry.elem value)))
         (λ b below.
-          let b_within : b < size = omega (arith, below, long) in
-          part_at store.memory start size b 0 b_within
-          ∙ ap (λ n. get_or store.memory n 0) (omega arith)
-          ∙ array_has (place_of entry) array store has k b within b_within
-          ∙ sym (value_byte entry.elem value b b_within))
+        let b_within : b < size = omega (arith, below, long) in
+        part_at store.memory start size b 0 b_within
+        ∙ ap (λ n. get_or store.memory n 0) (omega arith)
+        ∙ array_has (place_of entry) array store has k b within b_within
+        ∙ sym (value_byte entry.elem value b b_within))
 
     value_is : number_of entry.elem (element_in store.memory entry k) ≡ value
     value_is =
@@ -149,5 +149,5 @@ module _ (entry : Entry) (array : Grid) (store : Store) (has : HasArray (place_o
           let long : length (map f (range_with_len 0 n)) ≡ n = length-map-range_with_len f 0 n in
           ext_get_or (pos 0) (map f (range_with_len 0 n)) array.values (long ∙ sym count)
           (λ k below.
-            let k_below : k < n = omega (arith, below, long) in
-            get_or-map-range_with_len f 0 n k k (pos 0) k_below (omega arith) ∙ value_is k (omega (arith, k_below, count)))
+          let k_below : k < n = omega (arith, below, long) in
+          get_or-map-range_with_len f 0 n k k (pos 0) k_below (omega arith) ∙ value_is k (omega (arith, k_below, count)))

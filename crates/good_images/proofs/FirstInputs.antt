@@ -155,10 +155,10 @@ module _ (inputs : Pairs) where
       let room : length bytes ≤ length (drop entry.place whole) = omega (arith, length-drop entry.place whole, counted, inside, long) in
       let count : length (part whole entry.place (length bytes)) ≡ length bytes = length-take-le (length bytes) (drop entry.place whole) room in
       ext_get_or 0 (part whole entry.place (length bytes)) bytes count (λ b below.
-        let lower : b < length bytes = omega (arith, count, below) in
-        get_or-take (length bytes) (drop entry.place whole) b 0 lower
-        ∙ get_or-drop entry.place whole b 0
-        ∙ one_stands table memory k entry grid b stand is named lower)
+      let lower : b < length bytes = omega (arith, count, below) in
+      get_or-take (length bytes) (drop entry.place whole) b 0 lower
+      ∙ get_or-drop entry.place whole b 0
+      ∙ one_stands table memory k entry grid b stand is named lower)
 
 -- ---- the inputs of an image
 

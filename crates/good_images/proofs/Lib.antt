@@ -1,5 +1,6 @@
 pub mod Tables
 pub mod FirstInputs
+pub mod Images
 pub mod Runs
 pub mod Bytes
 pub mod Lower

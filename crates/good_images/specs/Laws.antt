@@ -60,7 +60,7 @@ abbrev pub ListsLeaveOutputs : Type 0
 ListsLeaveOutputs =
     OfCode (λ program split spad code. (given : Given) → IsGiven program spad given
     → outputs_in (sequential (pipe_list split spad) given.lanes
-      (start_state (image_with split spad code) given.inputs given.spad).store).memory split.table
+    (start_state (image_with split spad code) given.inputs given.spad).store).memory split.table
     ≡ meaning_of program given.inputs)
 
 -- arrays that fit a program's inputs fit any table that has them
