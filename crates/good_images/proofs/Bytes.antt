@@ -1,6 +1,5 @@
 -- The bytes of an array in memory, as the machine counts them and as the compiler does.
 use Rattle.std.proofs.Common.{◌≡◌, ℕ, pos, ℤ, ◌+◌, ◌*◌, ◌-◌, ◌<◌, ◌≤◌, ap, sym, ◌∙◌, refl, subst, arith, false, List, length, take, drop, get_or, map, slice_get, Option, Some, None}
-use Rattle.std.specs.Prelude.{All}
 use Rattle.std.specs.List.{flat_map, range_with_len}
 use Rattle.std.specs.Option.{option_map}
 use Rattle.std.proofs.lemmas.List.{ext_get_or, get_or-take, get_or-drop, length-take-le, length-drop}
@@ -12,18 +11,17 @@ use Rattle.ven_base.specs.declared.elem.Elem.{Elem}
 use Rattle.ven_base.specs.declared.elem.Elem.TheVariants.{U8, I8, U16, I16, U32, I32}
 use Rattle.ven_base.specs.declared.entry.Entry.{Entry}
 use Rattle.ven_base.specs.Elem.{size_of, IsElement}
-use Rattle.ven_base.specs.Extent.{Extent, elements_of}
+use Rattle.ven_base.specs.Extent.{elements_of}
 use Rattle.ven_base.specs.Grid.{Grid, IsGrid}
 use Rattle.ven_base.specs.Operation.{bits_of}
-use Rattle.ven_base.specs.Store.{Store, in_memory}
+use Rattle.ven_base.specs.Store.{Store}
 use Rattle.venice_isa.specs.Cell.{byte_of, part}
-use Rattle.venice_isa.specs.Element.{bytes_of, low_bytes, number_of}
+use Rattle.venice_isa.specs.Element.{bytes_of, number_of}
 use Rattle.venice_isa.proofs.Spellings.{low_bytes_length, bytes_spell}
 use Rattle.venice_machine.specs.Start.{array_bytes, array_in, element_in}
 use Rattle.venice_machine.proofs.Stretches.{bytes_length}
 use Rattle.pass_plan.specs.declared.split.ArrayPlace.{ArrayPlace}
-use Rattle.pass_plan.specs.Buffers.{byte_of_value, IsArrayByte}
-use Rattle.dma_segments.specs.Effect.{HasByte}
+use Rattle.pass_plan.specs.Buffers.{byte_of_value}
 use Rattle.dma_segments.specs.Laws.{HasArray}
 use Rattle.dma_segments.proofs.Values.{low_byte, array_has}
 
@@ -102,8 +100,8 @@ has_within memory p byte has = by (slice_get memory p) refl has
     by None is h = absurd (cc)
     by (Some x) is h = slice_get_within memory p x is
 
-module _ (entry : Entry) (array : Grid) (store : Store) (has : HasArray (place_of entry) array store) (is_grid : IsGrid array) (elem_is : array.elem ≡ entry.elem)
-    (shape_is : array.shape ≡ entry.shape) where
+module _ (entry : Entry) (array : Grid) (store : Store) (has : HasArray (place_of entry) array store) (is_grid : IsGrid array)
+    (elem_is : array.elem ≡ entry.elem) (shape_is : array.shape ≡ entry.shape) where
   module _ (k : ℕ) (within : k < length array.values) where
     abbrev value : ℤ
     value = get_or array.values k (pos 0)
@@ -126,11 +124,11 @@ module _ (entry : Entry) (array : Grid) (store : Store) (has : HasArray (place_o
         let long = part_length store.memory start size element_inside in
         ext_get_or 0 (part store.memory start size) (bytes_of entry.elem value) (long ∙ sym (low_bytes_length size (bits_of entry.elem value)))
         (λ b below.
-          let b_within : b < size = omega (arith, below, long) in
-          part_at store.memory start size b 0 b_within
-          ∙ ap (λ n. get_or store.memory n 0) (omega arith)
-          ∙ array_has (place_of entry) array store has k b within b_within
-          ∙ sym (value_byte entry.elem value b b_within))
+        let b_within : b < size = omega (arith, below, long) in
+        part_at store.memory start size b 0 b_within
+        ∙ ap (λ n. get_or store.memory n 0) (omega arith)
+        ∙ array_has (place_of entry) array store has k b within b_within
+        ∙ sym (value_byte entry.elem value b b_within))
 
     value_is : number_of entry.elem (element_in store.memory entry k) ≡ value
     value_is =
@@ -151,5 +149,5 @@ module _ (entry : Entry) (array : Grid) (store : Store) (has : HasArray (place_o
           let long : length (map f (range_with_len 0 n)) ≡ n = length-map-range_with_len f 0 n in
           ext_get_or (pos 0) (map f (range_with_len 0 n)) array.values (long ∙ sym count)
           (λ k below.
-            let k_below : k < n = omega (arith, below, long) in
-            get_or-map-range_with_len f 0 n k k (pos 0) k_below (omega arith) ∙ value_is k (omega (arith, k_below, count)))
+          let k_below : k < n = omega (arith, below, long) in
+          get_or-map-range_with_len f 0 n k k (pos 0) k_below (omega arith) ∙ value_is k (omega (arith, k_below, count)))

@@ -1,13 +1,11 @@
 -- The image of a split and of code for it is good, and no run of a good image is stopped.
-use Rattle.std.proofs.Common.{◌≡◌, ℕ, ◌+◌, ◌<◌, ◌≤◌, ◌^◌, ap, sym, ◌∙◌, refl, subst, arith, List, length, get_or, Some}
+use Rattle.std.proofs.Common.{ℕ, ◌+◌, ◌<◌, ◌≤◌, ◌^◌, ap, sym, ◌∙◌, refl, subst, arith, List, length, get_or}
 use Rattle.std.specs.Prelude.{All}
 use Rattle.ven_base.specs.Limits.{cell_limit}
 use Rattle.ven_base.specs.Store.{Store, Size, store_size}
-use Rattle.venice_isa.specs.declared.instr.Version.TheVariants.{Two}
 use Rattle.venice_isa.specs.declared.issue.Issue.{Issue}
 use Rattle.venice_isa.specs.Code.{Listing}
 use Rattle.venice_isa.specs.Flight.{IsDisciplined}
-use Rattle.venice_machine.specs.declared.stop.End.TheVariants.{Halted, Stopped}
 use Rattle.overlap_law.specs.Laws.{HasDisciplinedList, IsInOrder}
 use Rattle.overlap_law.proofs.FirstMemory.{in_order_in_larger}
 use Rattle.shape_check.specs.Checked.{IsCheckedProgram}
@@ -17,18 +15,20 @@ use Rattle.pass_plan.specs.Sound.{Split, IsSound}
 use Rattle.expr_split.specs.Places.{IsSplitOf}
 use Rattle.dma_schedule.specs.Laws.{KeepsInside}
 use Rattle.dma_schedule.specs.PipeList.{pipe_list}
-use Rattle.good_images.specs.Good.{Good, HasGoodList, Given, IsGiven, EndsWell}
+use Rattle.good_images.specs.Good.{HasGoodList, Given, IsGiven, EndsWell}
 use Rattle.good_images.specs.Laws.{IsCodeFor, image_with, TheyAreImages, TheyAreGood, GoodRunsHalt}
 use Rattle.good_images.proofs.Lower.{LowerLaws}
 use Rattle.good_images.proofs.Runs.{first_of, ends_well, as_many_steps}
 use Rattle.good_images.proofs.Lists.{first_size, lists_leave_outputs}
 
 -- what keeps inside the split's scratchpad and memory is in order in a store that is no smaller
-in_order : (split : Split) (spad : ℕ) (store : Store) (list : List Issue) → spad ≤ length store.cells → split.memory ≤ length store.memory → All (KeepsInside split spad) list
+in_order : (split : Split) (spad : ℕ) (store : Store) (list : List Issue) → spad ≤ length store.cells → split.memory ≤ length store.memory
+    → All (KeepsInside split spad) list
     → All (IsInOrder (store_size store)) list
 in_order split spad store list cells memory keep k d below =
     let here = keep k d below in
-    in_order_in_larger (record { cells = spad; memory = split.memory }) (store_size store) (get_or list k d) cells memory (record { counts = here.counts; in_range = here.inside })
+    in_order_in_larger (record { cells = spad; memory = split.memory }) (store_size store) (get_or list k d) cells memory
+    (record { counts = here.counts; in_range = here.inside })
 
 module _ (laws : LowerLaws) (images : TheyAreImages) where
   module _ (program : List Statement) (split : Split) (spad : ℕ) (code : Listing) (checked : IsCheckedProgram program) (is_split : IsSplitOf program split)
@@ -62,8 +62,8 @@ module _ (laws : LowerLaws) (images : TheyAreImages) where
         let size = first_size laws program split spad code checked is_split is_image given is_given in
         let some : 0 < given.lanes = omega (arith, is_given.some_lanes) in
         ends_well laws.halts program image (bound_of split.passes) given grants (is_code.steps + 1) (pipe_list split spad) some disciplined
-        (in_order split spad (first_of image given) (pipe_list split spad) (omega (arith, ap (λ (s : Size). s.cells) size, is_given.enough)) (omega (arith, ap (λ (s : Size). s.memory) size))
-        (laws.inside split spad sound enough small))
+        (in_order split spad (first_of image given) (pipe_list split spad) (omega (arith, ap (λ (s : Size). s.cells) size, is_given.enough))
+        (omega (arith, ap (λ (s : Size). s.memory) size)) (laws.inside split spad sound enough small))
         (is_code.within given.lanes some)
         (lists_leave_outputs laws images program split spad code checked is_split enough few is_code given is_given)
 

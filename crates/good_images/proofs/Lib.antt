@@ -1,5 +1,5 @@
-pub mod FirstInputs
 pub mod Tables
+pub mod FirstInputs
 pub mod Images
 pub mod Runs
 pub mod Bytes

@@ -1,43 +1,34 @@
 -- From the first memory the split's list leaves the outputs, where they are done one issue after another.
-use Rattle.std.proofs.Common.{◌≡◌, ℕ, ◌+◌, ◌*◌, ◌<◌, ◌≤◌, ◌^◌, ap, sym, ◌∙◌, refl, subst, arith, false, List, [], ◌∷◌, length, get_or, map, Contains, slice_get, Option, Some, IfSome}
+use Rattle.std.proofs.Common.{◌≡◌, ℕ, ◌+◌, ◌<◌, ◌≤◌, ap, sym, ◌∙◌, refl, subst, arith, List, [], ◌∷◌, length, get_or, map, Contains}
 use Rattle.std.specs.Prelude.{All}
 use Rattle.std.specs.List.{filter, AllZip}
-use Rattle.std.specs.Str.{bytes_eq}
-use Rattle.std.proofs.lemmas.Map.Views.{IfSome-lookup_from_All}
 use Rattle.std.proofs.lemmas.Option.{same_Some, slice_get_within, get_or_from_slice_get}
 use Rattle.ven_base.specs.declared.entry.Entry.{Entry}
-use Rattle.ven_base.specs.Elem.{size_of, IsElement}
-use Rattle.ven_base.specs.Extent.{Extent, elements_of}
+use Rattle.ven_base.specs.Elem.{IsElement}
+use Rattle.ven_base.specs.Extent.{elements_of}
 use Rattle.ven_base.specs.Grid.{Grid, IsGrid}
-use Rattle.ven_base.specs.Limits.{cell_limit}
-use Rattle.ven_base.specs.Pairs.{Pairs, ArePairs, array_named}
+use Rattle.ven_base.specs.Pairs.{Pairs, ArePairs}
 use Rattle.ven_base.specs.Store.{Store, Size, store_size}
-use Rattle.venice_isa.specs.declared.issue.Issue.{Issue}
 use Rattle.venice_isa.specs.Beat.{sequential}
 use Rattle.venice_isa.specs.Cell.{part}
 use Rattle.venice_isa.specs.Code.{Listing}
-use Rattle.array_file.specs.Fitting.{IsInput, Fits}
+use Rattle.array_file.specs.Fitting.{Fits}
 use Rattle.image_loader.specs.Image.{ImageContents, IsImage}
-use Rattle.venice_machine.specs.Start.{array_bytes, array_in, outputs_in, start_state}
+use Rattle.venice_machine.specs.Start.{array_bytes, array_in}
 use Rattle.venice_machine.specs.Inside.{AllStandIn}
 use Rattle.venice_machine.proofs.Inputs.{stand_in, input_inside}
-use Rattle.venice_machine.proofs.Stretches.{bytes_length}
-use Rattle.overlap_law.specs.Laws.{StartHasSizes}
 use Rattle.shape_check.specs.Checked.{IsCheckedProgram}
 use Rattle.shape_check.specs.Meaning.{meaning_of, FitInputs}
 use Rattle.shape_check.specs.Statement.{Statement}
-use Rattle.pass_plan.specs.declared.split.ArrayPlace.{ArrayPlace}
-use Rattle.pass_plan.specs.Need.{need_of}
 use Rattle.pass_plan.specs.Pass.{Arrays, arrays_after}
-use Rattle.pass_plan.specs.Sound.{Split, IsSound, IsArrayOf, no_place, destinations_of}
-use Rattle.expr_split.specs.Laws.{SplitsAreSound}
+use Rattle.pass_plan.specs.Sound.{Split, IsArrayOf, no_place, destinations_of}
 use Rattle.expr_split.specs.Places.{IsSplitOf, first_arrays, input_grids}
-use Rattle.expr_split.specs.TableLaws.{StandsAt, IsFrom, SourcesAreInputs, IsLeftAs, OutputsAreLeft}
+use Rattle.expr_split.specs.TableLaws.{IsFrom, IsLeftAs}
 use Rattle.dma_segments.specs.Laws.{HasArray}
-use Rattle.dma_schedule.specs.Laws.{HoldsSources, ListsLeaveArrays}
+use Rattle.dma_schedule.specs.Laws.{HoldsSources}
 use Rattle.dma_schedule.specs.PipeList.{pipe_list}
 use Rattle.good_images.specs.Good.{Given, IsGiven}
-use Rattle.good_images.specs.Laws.{image_with, TheyAreImages, ListsLeaveOutputs, TablesFit, FittingArraysAreInputs, IsCodeFor}
+use Rattle.good_images.specs.Laws.{image_with, TheyAreImages, ListsLeaveOutputs}
 use Rattle.good_images.proofs.Bytes.{has_array, place_of, array_there}
 use Rattle.good_images.proofs.Lower.{LowerLaws}
 use Rattle.good_images.proofs.Runs.{first_of, setting_of}
@@ -46,7 +37,8 @@ use Rattle.good_images.proofs.Tables.{named_grid, tables_fit, inputs_fit}
 
 -- ---- one source
 
-module _ (split : Split) (inputs : Pairs) (are : ArePairs inputs) (fit : Fits inputs split.table) (number : ℕ) (array : Grid) (from : IsFrom split inputs number array) where
+module _ (split : Split) (inputs : Pairs) (are : ArePairs inputs) (fit : Fits inputs split.table) (number : ℕ) (array : Grid)
+    (from : IsFrom split inputs number array) where
   source_grid : IsGrid array
   source_grid = named_grid inputs from.entry.name array are from.is
 
@@ -69,8 +61,9 @@ module _ (split : Split) (inputs : Pairs) (are : ArePairs inputs) (fit : Fits in
 
   source_inside : (image : ImageContents) → IsImage image → split.table ≡ image.arrays → from.entry.place + length (array_bytes array) ≤ image.memory
   source_inside image is_image table =
-      input_inside image.memory split.table inputs from.k from.entry array (subst (AllStandIn image.memory) (sym table) (stand_in image is_image)) fit source_grid
-      (slice_get_within split.table from.k from.entry from.there) (sym (get_or_from_slice_get split.table from.k from.entry from.entry from.there)) from.input from.is
+      let stand = subst (AllStandIn image.memory) (sym table) (stand_in image is_image) in
+      input_inside image.memory split.table inputs from.k from.entry array stand fit source_grid (slice_get_within split.table from.k from.entry from.there)
+      (sym (get_or_from_slice_get split.table from.k from.entry from.entry from.there)) from.input from.is
 
   source_stands : (store : Store) → from.entry.place + length (array_bytes array) ≤ length store.memory
       → part store.memory from.entry.place (length (array_bytes array)) ≡ array_bytes array → HasArray (get_or split.arrays number no_place) array store
@@ -105,8 +98,10 @@ module _ (laws : LowerLaws) where
         let array = arrays_of program given k in
         let from = source k known unmade in
         let inside = source_inside split given.inputs is_given.arrays fits_table k array from image is_image refl in
-        source_stands split given.inputs is_given.arrays fits_table k array from (first_of image given) (omega (arith, inside, ap (λ (s : Size). s.memory) first_size))
-        (first_inputs image given.inputs given.spad is_image is_given.arrays fits_table from.k from.entry array (record { stands = from.there; input = from.input }) from.is)
+        let bytes = first_inputs image given.inputs given.spad is_image is_given.arrays fits_table from.k from.entry array
+        (record { stands = from.there; input = from.input }) from.is in
+        source_stands split given.inputs is_given.arrays fits_table k array from (first_of image given)
+        (omega (arith, inside, ap (λ (s : Size). s.memory) first_size)) bytes
 
     pub holds_sources : HoldsSources split spad (arrays_of program given) (first_of (image_with split spad code) given)
     holds_sources = record {
@@ -123,11 +118,13 @@ output_there : (split : Split) (arrays : Arrays) (store : Store) (entry : Entry)
     → ((k : ℕ) → k < length split.arrays → HasArray (get_or split.arrays k no_place) (arrays k) store) → (entry.name, array_in store.memory entry) ≡ output
 output_there split arrays store entry output left has =
     let placed = subst (λ place. HasArray place (arrays left.number) store) left.stands.is (has left.number left.stands.known) in
-    let there = array_there entry output.1 store (subst (λ array. HasArray (place_of entry) array store) left.is placed) left.is_grid left.elem_is left.shape_is in
+    let has_output = subst (λ array. HasArray (place_of entry) array store) left.is placed in
+    let there = array_there entry output.1 store has_output left.is_grid left.elem_is left.shape_is in
     λ i. (left.named i, there i)
 
 outputs_there : (split : Split) (arrays : Arrays) (store : Store) (entries : List Entry) (outputs : Pairs) → AllZip (IsLeftAs split arrays) entries outputs
-    → ((k : ℕ) → k < length split.arrays → HasArray (get_or split.arrays k no_place) (arrays k) store) → map (λ entry. (entry.name, array_in store.memory entry)) entries ≡ outputs
+    → ((k : ℕ) → k < length split.arrays → HasArray (get_or split.arrays k no_place) (arrays k) store)
+    → map (λ entry. (entry.name, array_in store.memory entry)) entries ≡ outputs
 outputs_there split arrays store [] [] left has = refl
 outputs_there split arrays store [] (output ∷ outputs) left has = absurd left
 outputs_there split arrays store (entry ∷ entries) [] left has = absurd left
@@ -144,5 +141,6 @@ module _ (laws : LowerLaws) (images : TheyAreImages) where
       let after = sequential (pipe_list split spad) given.lanes store in
       outputs_there split (arrays_after split.passes arrays) after (filter (λ (entry : Entry). entry.output) split.table) (meaning_of program given.inputs)
       (laws.outputs program split given.inputs checked (are_given laws program split spad code checked is_split is_image given is_given) is_split)
-      (laws.leave split spad (laws.sound program split checked is_split) enough (omega (arith, few)) arrays given.lanes store (omega (arith, is_given.some_lanes))
+      (laws.leave split spad (laws.sound program split checked is_split) enough (omega (arith, few)) arrays given.lanes store
+      (omega (arith, is_given.some_lanes))
       (holds_sources laws program split spad code checked is_split is_image given is_given))

@@ -26,9 +26,12 @@ first_of image given = (start_state image given.inputs given.spad).store
 abbrev last_of : (most : ℕ) → (grants : List ℕ) → Moment
 last_of most grants = Between (grants ++ replicate (most + 1) all_units)
 
-pub ends_well : DisciplinedRunsHalt → (program : List Statement) (image : ImageContents) (most : ℕ) (given : Given) (grants : List ℕ) (host_steps : ℕ) (list : List Issue) → 0 < given.lanes
-    → HasDisciplinedList image.code host_steps list → All (IsInOrder (store_size (first_of image given))) list → host_steps + beats_of_all list given.lanes ≤ most
-    → outputs_in (sequential list given.lanes (first_of image given)).memory image.arrays ≡ meaning_of program given.inputs → EndsWell program image most given grants
+pub ends_well : DisciplinedRunsHalt
+    → (program : List Statement) (image : ImageContents) (most : ℕ) (given : Given) (grants : List ℕ) (host_steps : ℕ) (list : List Issue) → 0 < given.lanes
+    → HasDisciplinedList image.code host_steps list → All (IsInOrder (store_size (first_of image given))) list
+    → host_steps + beats_of_all list given.lanes ≤ most
+    → outputs_in (sequential list given.lanes (first_of image given)).memory image.arrays ≡ meaning_of program given.inputs
+    → EndsWell program image most given grants
 ends_well halts program image most given grants host_steps list some has in_order enough outputs =
     let through = halts (setting_of image most given) grants host_steps list some has in_order enough in
     record {
@@ -38,7 +41,8 @@ ends_well halts program image most given grants host_steps list some has in_orde
       outputs = ap (λ (store : Store). outputs_in store.memory image.arrays) through.leaves ∙ outputs;
     }
 
-pub as_many_steps : SameSteps → (image : ImageContents) (most : ℕ) (one other : Given) (grants other_grants : List ℕ) → 0 < one.lanes → other.lanes ≡ one.lanes
+pub as_many_steps : SameSteps → (image : ImageContents) (most : ℕ) (one other : Given) (grants other_grants : List ℕ) → 0 < one.lanes
+    → other.lanes ≡ one.lanes
     → (end_of image most one grants).end ≡ Some Halted → (end_of image most other other_grants).end ≡ Some Halted
     → (end_of image most other other_grants).steps ≡ (end_of image most one grants).steps
 as_many_steps same image most one other grants other_grants some lanes ended other_ended =
