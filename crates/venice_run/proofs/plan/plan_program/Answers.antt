@@ -21,3 +21,11 @@ unfolding plan_of
 returns-clause-planned c =
     Goes (split_of c.in_ok-split.split) c.in_ok-split.ensures.splits
     (Goes tt (rw (c.need.ensures, c.deref.ensures.value) at c.in_ok-need_room.ensures) refl)
+
+pub returns-clause-ready : goal.returns-clause-ready
+returns-clause-ready c = record {
+  checked = c.program.invariant.program;
+  is_split = c.in_ok-split.ensures.splits;
+  holds = rw (c.need.ensures, c.deref.ensures.value) at c.in_ok-need_room.ensures;
+  small = c.in_ok-split.ensures.small;
+}
