@@ -1,16 +1,19 @@
-The examples: additions, each with the least scratchpad that it runs in.
+The examples: array programs, each compiled and run in the scratchpad of its need and in 4,096 bytes, on one lane and on four. Where
+the machine left what the program means, a line has its bytes of scratchpad and lanes with the steps and cycles.
 
   $ venice() { "$TESTDIR/../../venice" "$@"; }
   $ cd "$TESTDIR/../../examples"
-  $ venice run add.ven add.arrays add.image 4 28
-  y u8[1,4]
-  5 7 9 4
-  $ venice run wrap.ven wrap.arrays wrap.image 4 42
-  less u8[1,6]
-  255 0 1 127 199 254
-  $ venice run brighten.ven brighten.arrays brighten.image 4 112
-  brighter_pixels u8[1,16]
-  20 28 36 44 52 60 68 76 84 92 100 108 116 124 132 140
+  $ venice run add.ven add.arrays "$CRAMTMP/add.image" 4 7
+  $ compared() {
+  >   venice run $1.ven $1.arrays "$CRAMTMP/$1.image" $2 $3 > "$CRAMTMP/said"
+  >   sed '/^steps /,$d' "$CRAMTMP/said" > "$CRAMTMP/outputs"
+  >   venice eval $1.ven $1.arrays | cmp - "$CRAMTMP/outputs" && echo $1 $3 $2 $(tail -n 2 "$CRAMTMP/said")
+  > }
+  $ for program in *.ven; do
+  >   for spad in $(venice check $program 4096 | sed -n 's/^need //p') 4096; do
+  >     for lanes in 1 4; do compared ${program%.ven} $lanes $spad; done
+  >   done
+  > done
 
 Assembler programs.
 
@@ -71,7 +74,7 @@ Assembler programs.
   steps 12
   cycles 18
 
-Programs of the whole language.
+What some of them mean.
 
   $ venice eval blur.ven blur.arrays
   y u8[5,6]
