@@ -13,7 +13,3 @@ pub mod Ready
 pub mod Fitted
 pub mod Listing
 pub mod Plans
-pub mod Meant
-pub mod Rows
-pub mod Tiles
-pub mod Steps
