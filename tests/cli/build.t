@@ -7,6 +7,10 @@
   $ od -An -tx1 -N4 add.image
    56 4e 43 32
   $ venice exec add.image add.arrays 3 7 11520
+  y u8[1,4]
+  5 7 9 4
+  steps 712
+  cycles 696
 
 Whoever may step in which cycle, as many steps.
 
@@ -14,6 +18,14 @@ Whoever may step in which cycle, as many steps.
   $ repeat 40 01 > host.grants
   $ repeat 40 04 > read.grants
   $ for grants in host read; do venice exec add.image add.arrays 3 7 11520 $grants.grants; done
+  y u8[1,4]
+  5 7 9 4
+  steps 712
+  cycles 696
+  y u8[1,4]
+  5 7 9 4
+  steps 712
+  cycles 736
 
 It saves what `run` saves, however many lanes.
 
@@ -23,8 +35,8 @@ It saves what `run` saves, however many lanes.
   >   venice exec add.image add.arrays $lanes 7 11520 | cmp - said
   > done
 
-An image says for which scratchpad it was made, and is no larger where there are more tiles to do: the code has loops over them. Here of
-one element, and of all four.
+An image says for which scratchpad it was made. Its code has loops over the tiles, so it is as small where there are many: here four of one
+element, then one, and further below 114.
 
   $ venice disasm add.image | sed -n 2p
   spad 7
@@ -32,7 +44,9 @@ one element, and of all four.
   $ venice disasm large.image | sed -n 2p
   spad 65536
   $ wc -c < add.image
+  1972
   $ wc -c < large.image
+  1812
 
 Refusals: the program's, and a scratchpad of less than the need. No image is saved then.
 
@@ -68,7 +82,12 @@ The sum of two arrays of 1,048,576 elements each, and a picture in the least scr
   $ echo 'input a u8[1024,1024]; input b u8[1024,1024]; output y = a + b;' > great.ven
   $ venice build great.ven great.image 65536
   $ wc -c < great.image
+  1828
   $ venice disasm great.image | sed -n 3,6p
+  memory 3145728
+  array a in u8[1024,1024] 0
+  array b in u8[1024,1024] 1048576
+  array y out u8[1024,1024] 2097152
   $ cat > picture.ven <<END
   > input a u8[240,320];
   > let w = u16(a);
@@ -83,4 +102,5 @@ The sum of two arrays of 1,048,576 elements each, and a picture in the least scr
   $ venice build picture.ven picture.image 44
   $ venice build picture.ven picture.image 16384
   $ wc -c < picture.image
+  25949
 

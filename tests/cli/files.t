@@ -140,8 +140,8 @@ A word at a file's place is a file's name, whatever it begins with.
   $ cp add.ven -- --help
   $ cp add.arrays 'two words'
   $ venice run --help 'two words' -- 4 28 --
-  error: grants bad at 0
-  [4]
+  error: file
+  [8]
   $ venice run --help 'two words' -- 4 28 | head -n 2
   y u8[1,2]
   4 6

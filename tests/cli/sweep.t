@@ -43,6 +43,38 @@ Steps and cycles of an image, or of an assembler text, over lanes and grants.
   host.grants      4    16      -       -  machine hazard pc 8 cycle 9
   late.grants      4    16     12      18
 
+Tiles, steps and cycles of a program on its inputs, by `run`; without a scratchpad in that of its need.
+
+  $ "$tools/sweep" sobel.ven sobel.arrays --lanes 1,4 --spad 10,24..400
+  lanes  spad  tiles  steps  cycles                     refusal
+      1    10      -      -       -  scratchpad need 24 have 10
+      1    24    168  58717   57397
+      1    48     84  30601   29917
+      1    96     42  15899   15391
+      1   192     21   8292    7908
+      1   384     11   5180    4809
+      4    10      -      -       -  scratchpad need 24 have 10
+      4    24    168  58717   57397
+      4    48     84  30589   29905
+      4    96     42  15679   15325
+      4   192     21   8028    7836
+      4   384     11   4916    4737
+  $ "$tools/sweep" sobel.ven sobel.arrays --csv
+  lanes,spad,tiles,steps,cycles
+  1,24,168,58717,57397
+  2,24,168,58717,57397
+  3,24,168,58717,57397
+  4,24,168,58717,57397
+  $ "$tools/sweep" add.ven add.arrays --lanes 4 --spad 7,28 --grants turns.grants,late_reads.grants
+             grants  lanes  spad  tiles  steps  cycles
+       turns.grants      4     7      4    712     768
+       turns.grants      4    28      1    173     241
+  late_reads.grants      4     7      4    712     696
+  late_reads.grants      4    28      1    173     169
+  $ ls *.image
+  ls: cannot access '*.image': No such file or directory
+  [2]
+
 A plot, which names each number that it shows.
 
   $ "$tools/sweep" double.asm serial.arrays --plot plot.svg > table
@@ -51,6 +83,12 @@ A plot, which names each number that it shows.
   <title>cycles: 2, 142
   <title>cycles: 3, 122
   <title>cycles: 4, 110
+  $ "$tools/sweep" add.ven add.arrays --lanes 1,2 --spad 7,28 --plot plot.svg > table
+  $ grep -o '<title>[^<]*' plot.svg
+  <title>1 lane: 7, 696
+  <title>1 lane: 28, 169
+  <title>2 lanes: 7, 696
+  <title>2 lanes: 28, 169
   $ python3 -c 'import sys, xml.dom.minidom; xml.dom.minidom.parse(sys.argv[1])' plot.svg
 
 Commands for other machines, and the table of what they left.
@@ -71,19 +109,33 @@ Commands for other machines, and the table of what they left.
       1   512    281     206
       4   512    185     110
 
+An array program is compiled there, and its images are left there, too.
+
+  $ "$tools/sweep" add.ven add.arrays --lanes 1,4 --spad 28 --jobs made > jobs
+  $ sed 's,[^ ]*venice ,venice ,' jobs
+  mkdir -p made; venice run add.ven add.arrays made/lanes=1,spad=28.image 1 28 > made/lanes=1,spad=28.answer; echo status $? >> made/lanes=1,spad=28.answer
+  mkdir -p made; venice run add.ven add.arrays made/lanes=4,spad=28.image 4 28 > made/lanes=4,spad=28.answer; echo status $? >> made/lanes=4,spad=28.answer
+  $ sh jobs
+  $ ls made
+  lanes=1,spad=28.answer
+  lanes=1,spad=28.image
+  lanes=4,spad=28.answer
+  lanes=4,spad=28.image
+  $ "$tools/sweep" add.ven add.arrays --lanes 1,4 --spad 28 --collect made
+  lanes  spad  tiles  steps  cycles
+      1    28      1    173     169
+      4    28      1    173     169
+
 Words that it can't take.
 
   $ "$tools/sweep" sobel.ven
-  sweep: the words are PROGRAM --spad LIST, or IMAGE INPUTS
+  sweep: the words are PROGRAM --spad LIST, PROGRAM INPUTS or IMAGE INPUTS
   [2]
   $ "$tools/sweep" sobel.ven --spad few
   sweep: `few` is no number, range (1-4) or doubling (64..4096)
   [2]
-  $ "$tools/sweep" sobel.ven sobel.arrays --spad 64
-  sweep: a PROGRAM stands alone; an IMAGE wants its INPUTS
-  [2]
   $ "$tools/sweep" double.asm --spad 512
-  sweep: a PROGRAM stands alone; an IMAGE wants its INPUTS
+  sweep: an IMAGE wants its INPUTS
   [2]
   $ "$tools/sweep" no.ven --spad 64
   sweep: no.ven: No such file or directory
