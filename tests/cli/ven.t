@@ -24,7 +24,8 @@ The commands, and the words of one.
     eval PROGRAM INPUTS                                       prints the outputs of the program, by the plain evaluator
     check PROGRAM SPAD                                        prints the outputs' shapes, the need, the passes with their tiles, and the bound
     explain PROGRAM                                           prints for each pass an order of evaluation, and how many results it holds
-    run PROGRAM INPUTS IMAGE LANES SPAD                       prints the sum of two arrays of one row
+    run PROGRAM INPUTS IMAGE LANES SPAD [GRANTS]              compiles a program, saves its image, runs it, and prints the outputs, the steps and the cycles
+    build PROGRAM IMAGE SPAD                                  compiles a program and saves its image; it prints nothing
     asm TEXT IMAGE                                            assembles a text and saves the image; it prints nothing
     disasm IMAGE                                              prints the canonical assembler text of an image
     exec IMAGE INPUTS LANES SPAD BUDGET [GRANTS]              runs an image, and prints its outputs, the steps and the cycles
@@ -46,7 +47,7 @@ The commands, and the words of one.
   usage: ven exec IMAGE INPUTS LANES SPAD BUDGET [GRANTS]
   It runs an image, and prints its outputs, the steps and the cycles.
   
-    IMAGE    the image, which `asm` makes of an assembler text
+    IMAGE    the image, which `build` makes of a program and `asm` of an assembler text
     INPUTS   the array file with the inputs
     LANES    the number of lanes, 1 to 4
     SPAD     the bytes of the scratchpad, 1 to 1048576
@@ -56,7 +57,7 @@ The commands, and the words of one.
   for example: ven exec add.image examples/add.arrays 4 12 100
   $ ven help sort
   `sort` is no command
-  the commands are eval check explain run asm disasm exec
+  the commands are eval check explain run build asm disasm exec
   [2]
 
 Words that aren't a command's: which is wrong, and what it may be. Whether a number is, the program is asked.
@@ -67,7 +68,8 @@ Words that aren't a command's: which is wrong, and what it may be. Whether a num
     eval PROGRAM INPUTS                                       prints the outputs of the program, by the plain evaluator
     check PROGRAM SPAD                                        prints the outputs' shapes, the need, the passes with their tiles, and the bound
     explain PROGRAM                                           prints for each pass an order of evaluation, and how many results it holds
-    run PROGRAM INPUTS IMAGE LANES SPAD                       prints the sum of two arrays of one row
+    run PROGRAM INPUTS IMAGE LANES SPAD [GRANTS]              compiles a program, saves its image, runs it, and prints the outputs, the steps and the cycles
+    build PROGRAM IMAGE SPAD                                  compiles a program and saves its image; it prints nothing
     asm TEXT IMAGE                                            assembles a text and saves the image; it prints nothing
     disasm IMAGE                                              prints the canonical assembler text of an image
     exec IMAGE INPUTS LANES SPAD BUDGET [GRANTS]              runs an image, and prints its outputs, the steps and the cycles
@@ -89,7 +91,7 @@ Words that aren't a command's: which is wrong, and what it may be. Whether a num
   $ ven exce add.image add.arrays 4 12 100
   error: usage
   `exce` is no command; is `exec` meant?
-  the commands are eval check explain run asm disasm exec
+  the commands are eval check explain run build asm disasm exec
   [2]
   $ ven exec add.image add.arrays 4 12
   error: usage
