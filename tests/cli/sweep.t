@@ -215,6 +215,14 @@ Words that it can't take.
   grants: `host*` has a `*` without a number behind it
   grants: these are more than 1048576 cycles, the most of a grant list
   [2]
+  $ { "$tools/grants" 'all*1048576'; echo $? > status; } | head -n 1 | cut -c 1-11
+  0f 0f 0f 0f
+  $ cat status
+  9
+  $ "$tools/sweep" sobel.ven --spad 64 > /dev/full
+  [9]
+  $ "$tools/passes" sobel.ven 64 > /dev/full
+  [9]
   $ "$tools/grants" 'random:1*1048576' | "$TESTDIR/../../venice" exec race.image race.arrays 4 16 100 /dev/stdin
   error: machine hazard pc 8 cycle 21
   [7]

@@ -104,6 +104,16 @@ def stop(why, status=1):
     sys.exit(status)
 
 
+def put(output):
+    """Writes all of these bytes to standard output, which may be unbuffered, and so take a part of them at a time."""
+    if not sys.stdout:
+        raise OSError(errno.EPIPE, "standard output is closed")
+    rest = memoryview(output)
+    while rest:
+        rest = rest[sys.stdout.buffer.write(rest):]
+    sys.stdout.flush()
+
+
 def end_with(main):
     """Ends the tool with the status that `main` gives for its words. Where the output isn't taken, as by `| head`, that is 9."""
     try:
@@ -113,7 +123,8 @@ def end_with(main):
     except OSError as error:
         if error.errno not in (errno.EPIPE, errno.ENOSPC):
             raise
-        os.dup2(os.open(os.devnull, os.O_WRONLY), 1)
+        if sys.stdout:
+            os.dup2(os.open(os.devnull, os.O_WRONLY), 1)
         status = 9
     sys.exit(status)
 
