@@ -1,8 +1,8 @@
 //! Runs the top call over files and a sink in memory, a line of standard input a run, and prints what came of it.
 //!
 //! A line is the number of the call on the files that fails, the number of the put that fails, and the words of a
-//! command; 0 fails nothing. The files are those of `FILES`, and `M`, to which commands save here. What is printed stands in
-//! the file `stdout`, which was written by hand.
+//! command; 0 fails nothing. The files are those of `FILES`, and `M`, to which commands save here. What is printed stands
+//! in the file `stdout`, which was written by hand, but for the numbers of steps, cycles and instructions of `P`.
 #![tactic(auto)]
 
 use std::alloc::{AllocError, Global};
@@ -11,8 +11,8 @@ use std::io::Write;
 use ven_io::{MemFiles, MemSink};
 use venice_run::venice;
 
-/// An addition, its inputs, an assembler text, its image, and a file that isn't any of these.
-static FILES: [(&str, &[u8]); 5] = [
+/// An addition, its inputs, an assembler text, its image, a grant list, and a file that isn't any of these.
+static FILES: [(&str, &[u8]); 6] = [
     (
         "P",
         b"input a u8[1,4];\ninput b u8[1,4];\noutput y = a + b;\n",
@@ -23,11 +23,15 @@ static FILES: [(&str, &[u8]); 5] = [
         "H",
         b"VNC1\x10\0\0\0\0\0\0\0\0\0\0\0\x01\0\0\0\0\0\0\0\0\0\0\0",
     ),
+    ("G", b"01 04\n"),
     ("E", b""),
 ];
 
 /// The file to which commands save.
 const SAVED: &str = "M";
+
+/// So many bytes of it are printed: an image's magic and header.
+const HEAD: usize = 20;
 
 fn main(rt: HostRuntime) -> io::Result<()> {
     for line in rt.lines(rt.alloc()) {
@@ -87,10 +91,11 @@ fn print_reply<R: Print>(rt: &R, status: u8, taken: &[u8]) -> io::Result<()> {
     println!(rt; ">")
 }
 
-/// The bytes of the saved file, if there is one, and whether the other files hold what they held.
+/// The length and the first bytes of the saved file, if there is one, and whether the other files hold what they held.
 fn print_files<R: Print>(rt: &R, files: &MemFiles) -> io::Result<()> {
     if let Some(bytes) = files.get(SAVED) {
-        println!(rt; "{SAVED} holds {bytes:?}")?;
+        let head = &bytes[..bytes.len().min(HEAD)];
+        println!(rt; "{SAVED} holds {} bytes from {head:?}", bytes.len())?;
     }
     for (name, bytes) in &FILES {
         if files.get(name) != Some(*bytes) {

@@ -10,6 +10,6 @@ pub mod Taking
 pub mod Requests
 pub mod Stages
 pub mod Ready
-pub mod Fitted
+pub mod Tables
 pub mod Listing
 pub mod Plans

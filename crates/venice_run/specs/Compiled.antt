@@ -14,8 +14,8 @@ use Rattle.expr_split.specs.Places.{IsSplitOf}
 use Rattle.host_codegen.specs.CodeOf.{code_for}
 use Rattle.good_images.specs.Good.{Good}
 use Rattle.good_images.specs.Laws.{image_with}
-use Rattle.venice_run.specs.declared.compile.CompileFault.{CompileFault}
-use Rattle.venice_run.specs.declared.compile.CompileFault.TheVariants.{Scratchpad, Memory}
+use Rattle.venice_run.specs.declared.compiling.CompileFault.{CompileFault}
+use Rattle.venice_run.specs.declared.compiling.CompileFault.TheVariants.{Scratchpad, Memory}
 use Rattle.venice_run.specs.declared.request.Resources.{Resources}
 use Rattle.venice_run.specs.Answer.{Answer, saves_and_prints}
 use Rattle.venice_run.specs.Exec.{counts_text, end_of_run}

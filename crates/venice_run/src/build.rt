@@ -10,7 +10,7 @@ ghost use Rattle.venice_run.specs.Stage.{as_stage};
 ghost use Rattle.venice_run.specs.Words.{IsUpTo};
 
 use crate::answer::Answer;
-use crate::compile::image_bytes;
+use crate::compiling::image_bytes;
 use crate::ending::{Ending, Fault};
 use crate::plan::{Plan, read_plan};
 use std::alloc::Global;

@@ -46,7 +46,7 @@ mod asm;
 mod build;
 mod check;
 mod command;
-mod compile;
+mod compiling;
 mod disasm;
 mod ending;
 mod eval;
@@ -68,7 +68,7 @@ mod run;
 mod top;
 
 pub use command::{Command, read_words};
-pub use compile::{CompileFault, compile};
+pub use compiling::{CompileFault, compile};
 pub use ending::{Ending, Fault};
 pub use laws::{lines_are_the_text, one_answer, promise_is_complete};
 pub use refusal::{Kind, Refusal, Shortage};

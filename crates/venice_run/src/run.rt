@@ -10,7 +10,7 @@ ghost use Rattle.venice_run.specs.Stage.{as_stage};
 ghost use Rattle.venice_run.specs.Words.{most_lanes, IsUpTo};
 
 use crate::answer::Answer;
-use crate::compile::image_bytes;
+use crate::compiling::image_bytes;
 use crate::ending::{Ending, Fault};
 use crate::exec::run_text;
 use crate::grants::load_grants;
