@@ -75,6 +75,28 @@ Tiles, steps and cycles of a program on its inputs, by `run`; without a scratchp
   ls: cannot access '*.image': No such file or directory
   [2]
 
+How many beats each unit makes, and how many times as long as the busiest of them the run takes.
+
+  $ "$tools/sweep" double.asm serial.arrays --lanes 1,4 --beats
+  lanes  spad  steps  cycles  vec  read  write  ratio
+      1   512    281     206  128    32     32   1.61
+      4   512    185     110   32    32     32   3.44
+  $ "$tools/sweep" sobel.ven sobel.arrays --lanes 1,4 --spad 10,24,4096 --beats
+  lanes  spad  tiles  steps  cycles  vec  read  write  ratio                     refusal
+      1    10      -      -       -    -     -      -      -  scratchpad need 24 have 10
+      1    24    168  58717   57397  704   448    168  81.53
+      1  4096      4   2239    1990  376    59     21   5.29
+      4    10      -      -       -    -     -      -      -  scratchpad need 24 have 10
+      4    24    168  58717   57397  704   448    168  81.53
+      4  4096      4   1975    1803  112    59     21  16.10
+  $ "$tools/sweep" bins.ven bins.arrays --lanes 4 --spad 36,4096 --beats --csv
+  lanes,spad,tiles,steps,cycles,vec,read,write,ratio
+  4,36,404,198190,196210,-,-,-,-
+  4,4096,6,5755,5293,126,422,10,12.54
+  $ "$tools/sweep" sobel.ven --spad 24 --beats
+  sweep: --beats wants INPUTS, and runs that are made here
+  [2]
+
 A plot, which names each number that it shows.
 
   $ "$tools/sweep" double.asm serial.arrays --plot plot.svg > table
