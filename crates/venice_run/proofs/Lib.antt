@@ -10,6 +10,7 @@ pub mod Taking
 pub mod Requests
 pub mod Stages
 pub mod Ready
+pub mod Halting
 pub mod Tables
 pub mod Listing
 pub mod Plans

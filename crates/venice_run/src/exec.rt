@@ -72,7 +72,7 @@ fn fed_machine<F: Files>(
 }
 
 /// The machine of the image with these arrays in memory, where they fit its inputs.
-fn make_machine(
+pub(crate) fn make_machine(
     alloc: Global,
     image: Image,
     resources: Resources,

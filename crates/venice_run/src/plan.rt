@@ -1,14 +1,14 @@
 //! The plan of a program.
 
-ghost use Rattle.std.specs.Prelude.{◌≤◌, IfOk, IsErrOf, All};
+ghost use Rattle.std.specs.Prelude.{IfOk, IsErrOf, All};
 ghost use Rattle.ven_io.specs.Files.{OnlyLoads};
 ghost use Rattle.expr_split.specs.Places.{IsSplitOf};
-ghost use Rattle.pass_plan.specs.Need.{need_of, AreSmall};
+ghost use Rattle.pass_plan.specs.Need.{AreSmall};
 ghost use Rattle.pass_plan.specs.Shown.{split_of, passes_of};
 ghost use Rattle.pass_plan.specs.Sound.{Split as Denoted};
 ghost use Rattle.shape_check.specs.Checked.{program_of, IsChecked};
 ghost use Rattle.venice_run.specs.Plan.{splits, HasRoom, has_room, plan_of, plan_under, IsOrdered};
-ghost use Rattle.venice_run.specs.Plans.{planned};
+ghost use Rattle.venice_run.specs.Plans.{planned, IsReadyPlan};
 ghost use Rattle.venice_run.specs.Stage.{as_stage};
 
 use crate::ending::{Ending, Fault};
@@ -36,9 +36,7 @@ pub(crate) fn read_plan<F: Files>(
 ) -> Result<Plan, Ending>
     ensures read { plan_under (F.behaviour (F.state files.old).content) program.now spad (as_stage planned result) }
     ensures only { OnlyLoads (F.state files.old) (F.state files.new) (IsErrOf result (Ending.Failed Fault.File)) }
-    ensures is_split { IfOk result (λ plan. IsSplitOf (program_of plan.program) (split_of plan.split)) }
-    ensures room { IfOk result (λ plan. need_of (split_of plan.split).passes ≤ spad) }
-    ensures small { IfOk result (λ plan. AreSmall (passes_of plan.split.passes.items)) }
+    ensures ready { IfOk result (λ plan. IsReadyPlan plan spad) }
 {
     let checked = read_program(alloc, files, program)?;
     plan_program(alloc, checked, spad)
@@ -47,9 +45,7 @@ pub(crate) fn read_plan<F: Files>(
 /// The program with its split, where the scratchpad holds its need.
 fn plan_program(alloc: Global, program: Checked, spad: u32) -> Result<Plan, Ending>
     ensures planned { plan_of (program_of program) spad (as_stage planned result) }
-    ensures is_split { IfOk result (λ plan. IsSplitOf (program_of plan.program) (split_of plan.split)) }
-    ensures room { IfOk result (λ plan. need_of (split_of plan.split).passes ≤ spad) }
-    ensures small { IfOk result (λ plan. AreSmall (passes_of plan.split.passes.items)) }
+    ensures ready { IfOk result (λ plan. IsReadyPlan plan spad) }
 {
     let split = split_program(alloc, &program)?;
     need_room(need(&split.passes), spad)?;

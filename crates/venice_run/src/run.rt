@@ -1,28 +1,38 @@
 //! The command `run`.
 
-ghost use Rattle.std.specs.Prelude.{◌≡◌, ◌≤◌, IfOk, IsErrOf};
+ghost use Rattle.std.specs.Prelude.{◌≡◌, IsErrOf};
 ghost use Rattle.std.specs.Option.{option_map};
 ghost use Rattle.ven_base.specs.Limits.{cell_limit};
 ghost use Rattle.ven_io.specs.Files.{OnlyLoads};
+ghost use Rattle.array_file.specs.Fitting.{Fits};
+ghost use Rattle.shape_check.specs.Checked.{program_of};
+ghost use Rattle.expr_split.specs.DeclaredTable.{input_table};
 ghost use Rattle.venice_run.specs.Answer.{answer_of};
+ghost use Rattle.venice_run.specs.Compiled.{saves_run};
+ghost use Rattle.venice_run.specs.Exec.{end_of_run, run_text as run_text_lem};
+ghost use Rattle.venice_run.specs.Plans.{planned, IsReadyPlan};
+ghost use Rattle.venice_run.specs.Ready.{HaltsOn};
 ghost use Rattle.venice_run.specs.Run.{run as run_lem};
-ghost use Rattle.venice_run.specs.Stage.{as_stage};
-ghost use Rattle.venice_run.specs.Words.{most_lanes, IsUpTo};
+ghost use Rattle.venice_run.specs.Stage.{as_stage, gives};
+ghost use Rattle.venice_run.specs.Words.{most_lanes, IsUpTo, AreInRange};
 
 use crate::answer::Answer;
 use crate::compiling::image_bytes;
 use crate::ending::{Ending, Fault};
-use crate::exec::run_text;
+use crate::exec::{make_machine, run_text};
 use crate::grants::load_grants;
+use crate::images::image_of_bytes;
 use crate::inputs::read_inputs;
 use crate::plan::{Plan, read_plan};
-use crate::request::Room;
-use image_loader::{Image, ImageFault, read_image};
+use crate::request::{Resources, Room};
+use expr_split::{size_laws, split_laws};
+use good_images::table_fits;
+use image_loader::Image;
 use pass_plan::bound;
 use std::alloc::Global;
 use ven_base::Arrays;
 use ven_io::Files;
-use venice_machine::{Grants, Machine, MakeFault};
+use venice_machine::Grants;
 
 /// It compiles PROGRAM, saves its image under the name IMAGE, runs it on INPUTS under GRANTS, and prints the outputs and
 /// the counts, or comes to its first refusal. Files are only read here; the save comes with the answer.
@@ -55,44 +65,41 @@ fn save_run<'a>(
     room: Room,
     arrays: &Arrays,
     grants: &Grants,
-) -> Result<Answer<'a>, Ending> {
-    let budget = bound(&plan.split.passes);
+) -> Result<Answer<'a>, Ending>
+    requires plan { IsReadyPlan plan room.spad }
+    requires lanes { IsUpTo most_lanes room.lanes }
+    requires spad { IsUpTo cell_limit room.spad }
+    requires fits { Fits arrays.now (input_table (program_of plan.program)) }
+    ensures { saves_run image.now (planned plan) room.lanes room.spad arrays.now grants.now (as_stage answer_of result) }
+{
+    split_laws();
+    size_laws();
+    table_fits();
+    let resources = Resources {
+        lanes: room.lanes,
+        spad: room.spad,
+        budget: bound(&plan.split.passes),
+    };
     let bytes = image_bytes(alloc, plan.split, room.spad)?;
-    let text = run_bytes(alloc, &bytes, room, budget, arrays, grants)?;
+    let loaded = image_of_bytes(alloc, &bytes)?;
+    let text = run_image(alloc, loaded, resources, arrays, grants)?;
     Ok(Answer::saving(image, bytes, text))
 }
 
-/// The text of the run of the image that the bytes spell.
-fn run_bytes(
+/// The text of the image's run, which comes to HALT.
+fn run_image(
     alloc: Global,
-    bytes: &[u8],
-    room: Room,
-    budget: u64,
+    image: Image,
+    resources: Resources,
     arrays: &Arrays,
     grants: &Grants,
-) -> Result<Vec<u8>, Ending> {
-    let image = read_back(alloc, bytes)?;
-    let mut machine = machine_of(alloc, image, room, arrays)?;
-    match machine.run(grants, budget) {
-        Ok(counts) => Ok(run_text(alloc, &machine, counts)?),
-        Err(_) => unreachable!(),
-    }
-}
-
-/// The image that the bytes spell.
-fn read_back(alloc: Global, bytes: &[u8]) -> Result<Image, Ending> {
-    match read_image(alloc, bytes) {
-        Ok(image) => Ok(image),
-        Err(ImageFault::Memory) => Err(Ending::Failed(Fault::Memory)),
-        Err(_) => unreachable!(),
-    }
-}
-
-/// The machine of the image with these arrays in memory, which fit it.
-fn machine_of(alloc: Global, image: Image, room: Room, arrays: &Arrays) -> Result<Machine, Ending> {
-    match Machine::new(alloc, image, room.lanes, room.spad, arrays) {
-        Ok(machine) => Ok(machine),
-        Err(MakeFault::Memory) => Err(Ending::Failed(Fault::Memory)),
-        Err(_) => unreachable!(),
-    }
+) -> Result<Vec<u8>, Ending>
+    requires range { AreInRange resources }
+    requires halts { HaltsOn image resources arrays.now }
+    ensures { gives (λ text. text ≡ run_text_lem image.arrays (end_of_run image resources arrays.now grants.now))
+        (as_stage (λ text. text.items) result) }
+{
+    let mut machine = make_machine(alloc, image, resources, arrays)?;
+    let counts = machine.run(grants, resources.budget)?;
+    Ok(run_text(alloc, &machine, counts)?)
 }
