@@ -89,7 +89,7 @@ pub(crate) fn image_of(alloc: Global, split: Split, spad: u32) -> Result<Image, 
     })
 }
 
-/// The split's code, of which an image has room.
+/// The split's code, for which an image has room.
 fn code_of_split(alloc: Global, split: &Split, spad: u32) -> Result<Code, AllocError>
     requires of_program { IsOfSome (split_of split.now) }
     requires holds { need_of (split_of split.now).passes ≤ spad }
