@@ -11,6 +11,7 @@ pub mod Requests
 pub mod Stages
 pub mod Ready
 pub mod Halting
+pub mod Saved
 pub mod Tables
 pub mod Listing
 pub mod Plans

@@ -27,6 +27,8 @@ use Rattle.venice_run.specs.declared.ending.Ending.TheVariants.{Refused, Failed}
 use Rattle.venice_run.specs.declared.ending.Fault.TheVariants.{File, Memory}
 use Rattle.venice_run.specs.declared.refusal.Refusal.TheVariants.{Scratchpad}
 use Rattle.venice_run.specs.Asm.{assembled}
+use Rattle.venice_run.specs.Build.{saves_image}
+use Rattle.venice_run.specs.Compiled.{compiled, saves_run}
 use Rattle.venice_run.specs.Endings.{parse_ending, check_ending, array_ending, grant_ending, image_ending, assembler_ending, machine_ending}
 use Rattle.venice_run.specs.Grants.{grants_in}
 use Rattle.venice_run.specs.Images.{image_in}
@@ -118,3 +120,15 @@ run_no_file table state (Goes counts is goes) = let other : Failed File ≡ Fail
 pub assembled_no_file : (text : List ℕ) → assembled text (Err (Failed File)) → ⊥
 unfolding assembled
 assembled_no_file text p = assembler_no_file p.0 p.2
+
+pub run_saved_no_file : (image : List ℕ) (planned : Planned) (lanes spad : ℕ) (arrays : Pairs) (grants : List ℕ)
+    → saves_run image planned lanes spad arrays grants (Err (Failed File)) → ⊥
+unfolding saves_run compiled
+run_saved_no_file image planned lanes spad arrays grants (Ends ending is same) =
+    let other : Failed File ≡ Failed Memory = file_is {A = Answer} ending same ∙ is in cc
+run_saved_no_file image planned lanes spad arrays grants (Goes made is goes) = let other : Failed File ≡ Failed Memory = goes in cc
+
+pub image_saved_no_file : (image : List ℕ) (planned : Planned) (spad : ℕ) → saves_image image planned spad (Err (Failed File)) → ⊥
+unfolding compiled
+image_saved_no_file image planned spad (Ends ending is same) = let other : Failed File ≡ Failed Memory = file_is {A = Answer} ending same ∙ is in cc
+image_saved_no_file image planned spad (Goes made is goes) = let other : Failed File ≡ Failed Memory = goes in cc

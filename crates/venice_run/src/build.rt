@@ -1,11 +1,11 @@
 //! The command `build`.
 
-ghost use Rattle.std.specs.Prelude.{◌≤◌, IsErrOf, []};
+ghost use Rattle.std.specs.Prelude.{IsErrOf};
 ghost use Rattle.ven_base.specs.Limits.{cell_limit};
 ghost use Rattle.ven_io.specs.Files.{OnlyLoads};
-ghost use Rattle.image_loader.specs.Image.{spelling};
 ghost use Rattle.venice_run.specs.Answer.{answer_of};
-ghost use Rattle.venice_run.specs.Build.{build as build_lem};
+ghost use Rattle.venice_run.specs.Build.{saves_image, build as build_lem};
+ghost use Rattle.venice_run.specs.Plans.{planned, IsReadyPlan};
 ghost use Rattle.venice_run.specs.Stage.{as_stage};
 ghost use Rattle.venice_run.specs.Words.{IsUpTo};
 
@@ -34,12 +34,17 @@ pub(crate) fn build<'a, F: Files>(
     save_image(alloc, plan, image, spad)
 }
 
+/// It saves the image of the plan's program.
 fn save_image<'a>(
     alloc: Global,
     plan: Plan,
     image: &'a str,
     spad: u32,
-) -> Result<Answer<'a>, Ending> {
+) -> Result<Answer<'a>, Ending>
+    requires plan { IsReadyPlan plan spad }
+    requires spad { IsUpTo cell_limit spad }
+    ensures { saves_image image.now (planned plan) spad (as_stage answer_of result) }
+{
     let bytes = image_bytes(alloc, plan.split, spad)?;
     Ok(Answer::saving(image, bytes, Vec::new(alloc)))
 }

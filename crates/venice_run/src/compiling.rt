@@ -6,23 +6,25 @@ ghost use Rattle.image_loader.specs.Image.{spelling};
 ghost use Rattle.image_loader.specs.Table.{file_limit};
 ghost use Rattle.shape_check.specs.Checked.{program_of, IsCheckedProgram};
 ghost use Rattle.shape_check.specs.Statement.{Statement};
-ghost use Rattle.pass_plan.specs.Need.{need_of};
-ghost use Rattle.pass_plan.specs.Shown.{split_of};
+ghost use Rattle.pass_plan.specs.Need.{need_of, AreSmall};
+ghost use Rattle.pass_plan.specs.Shown.{split_of, passes_of};
 ghost use Rattle.pass_plan.specs.Sound.{Split as Denoted};
 ghost use Rattle.expr_split.specs.Places.{IsSplitOf};
 ghost use Rattle.host_codegen.specs.CodeOf.{code_for};
 ghost use Rattle.good_images.specs.Good.{Good};
-ghost use Rattle.good_images.specs.Laws.{image_with};
+ghost use Rattle.good_images.specs.Laws.{image_with, IsCodeFor};
 ghost use Rattle.venice_run.specs.Compiled.{IsOfSome, IsNoImage};
 
 use crate::plan::check_room;
 use crate::refusal::Shortage;
-use expr_split::split;
-use host_codegen::code;
+use expr_split::{size_laws, split, split_laws};
+use good_images::good_laws;
+use host_codegen::{code, room_laws};
 use image_loader::{Image, write_image};
 use pass_plan::{Split, need};
 use shape_check::Checked;
 use std::alloc::{AllocError, Global};
+use venice_isa::Code;
 
 /// Why there is no image of a program.
 #[derive(Clone, Copy)]
@@ -43,7 +45,8 @@ pub fn compile(alloc: Global, program: &Checked, spad: u32) -> Result<Image, Com
         (λ image. (split : Denoted) → IsSplitOf (program_of program.now) split → need_of split.passes ≤ spad) }
     ensures fault { IfErr result (IsNoImage (program_of program.now) spad) }
 {
-    let Ok(split) = split(alloc, program) else {
+    split_laws();
+    let Ok(split) = checked_split(alloc, program) else {
         return Err(CompileFault::Memory);
     };
     if let Err(shortage) = check_room(need(&split.passes), spad) {
@@ -55,6 +58,17 @@ pub fn compile(alloc: Global, program: &Checked, spad: u32) -> Result<Image, Com
     }
 }
 
+/// The split of the program, which is checked.
+fn checked_split(alloc: Global, program: &Checked) -> Result<Split, AllocError>
+    ensures is_checked { IsCheckedProgram (program_of program.now) }
+    ensures is_split { IfOk result (λ split. IsSplitOf (program_of program.now) (split_of split)) }
+    ensures small { IfOk result (λ split. AreSmall (passes_of split.passes.items)) }
+{
+    size_laws();
+    let _known = program.stmts.as_slice();
+    split(alloc, program)
+}
+
 /// The image of a split, by which `compile` and the commands make theirs.
 pub(crate) fn image_of(alloc: Global, split: Split, spad: u32) -> Result<Image, AllocError>
     requires of_program { IsOfSome (split_of split) }
@@ -64,7 +78,8 @@ pub(crate) fn image_of(alloc: Global, split: Split, spad: u32) -> Result<Image, 
         → IsSplitOf program (split_of split) → Good image program spad) }
     ensures is { IfOk result (λ image. image ≡ image_with (split_of split) spad (code_for (split_of split) spad)) }
 {
-    let code = code(alloc, &split, spad)?;
+    good_laws();
+    let code = code_of_split(alloc, &split, spad)?;
     let Split { table, memory, .. } = split;
     Ok(Image {
         spad,
@@ -72,6 +87,21 @@ pub(crate) fn image_of(alloc: Global, split: Split, spad: u32) -> Result<Image, 
         arrays: table,
         code,
     })
+}
+
+/// The split's code, of which an image has room.
+fn code_of_split(alloc: Global, split: &Split, spad: u32) -> Result<Code, AllocError>
+    requires of_program { IsOfSome (split_of split.now) }
+    requires holds { need_of (split_of split.now).passes ≤ spad }
+    ensures is { IfOk result (λ code. code ≡ code_for (split_of split.now) spad) }
+    ensures fits { IfOk result (IsCodeFor (split_of split.now) spad) }
+{
+    split_laws();
+    size_laws();
+    room_laws();
+    let code = code(alloc, split, spad)?;
+    let _known = code.instrs.as_slice();
+    Ok(code)
 }
 
 /// The bytes of that image.
@@ -82,6 +112,9 @@ pub(crate) fn image_bytes(alloc: Global, split: Split, spad: u32) -> Result<Vec<
     ensures spelled { IfOk result
         (λ bytes. bytes.items ≡ spelling (image_with (split_of split) spad (code_for (split_of split) spad))) }
     ensures short { IfOk result (λ bytes. length bytes.items ≤ file_limit) }
+    ensures good { IfOk result (λ bytes. (program : List Statement) → IsCheckedProgram program
+        → IsSplitOf program (split_of split)
+        → Good (image_with (split_of split) spad (code_for (split_of split) spad)) program spad) }
 {
     let image = image_of(alloc, split, spad)?;
     write_image(alloc, &image)

@@ -2,6 +2,7 @@
 
 ghost use Rattle.std.specs.Prelude.{◌≡◌, ◌++◌, ◌<◌, ◌^◌, length, All, IfOk, OnOk, IsErrOf};
 ghost use Rattle.ven_io.specs.Files.{OnlyLoads};
+ghost use Rattle.ven_base.specs.Pairs.{ArePairs};
 ghost use Rattle.array_file.specs.Fitting.{Fits};
 ghost use Rattle.shape_check.specs.Checked.{program_of, statement_of, IsWhole};
 ghost use Rattle.shape_check.specs.Meaning.{FitInputs};
@@ -30,6 +31,7 @@ pub(crate) fn read_inputs<F: Files>(
         (input_table_lem (program_of program.now)) (as_stage (λ arrays. arrays) result) }
     ensures only { OnlyLoads (F.state files.old) (F.state files.new) (IsErrOf result (Ending.Failed Fault.File)) }
     ensures fits { IfOk result (λ arrays. Fits arrays (input_table_lem (program_of program.now))) }
+    ensures pairs { IfOk result ArePairs }
     ensures inputs { IfOk result (FitInputs (program_of program.now)) }
 {
     let arrays = load_arrays(alloc, files, name)?;
@@ -62,6 +64,7 @@ fn arrays_of_text(alloc: Global, text: &[u8]) -> Result<Arrays, Ending>
 fn fit_inputs(alloc: Global, arrays: Arrays, program: &Checked) -> Result<Arrays, Ending>
     ensures fitted { fitting (input_table_lem (program_of program.now)) arrays (as_stage (λ fitted. fitted) result) }
     ensures fits { IfOk result (λ arrays. Fits arrays (input_table_lem (program_of program.now))) }
+    ensures pairs { IfOk result ArePairs }
     ensures inputs { IfOk result (FitInputs (program_of program.now)) }
 {
     table_fits();

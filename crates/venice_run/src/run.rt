@@ -4,6 +4,7 @@ ghost use Rattle.std.specs.Prelude.{◌≡◌, IsErrOf};
 ghost use Rattle.std.specs.Option.{option_map};
 ghost use Rattle.ven_base.specs.Limits.{cell_limit};
 ghost use Rattle.ven_io.specs.Files.{OnlyLoads};
+ghost use Rattle.ven_base.specs.Pairs.{ArePairs};
 ghost use Rattle.array_file.specs.Fitting.{Fits};
 ghost use Rattle.shape_check.specs.Checked.{program_of};
 ghost use Rattle.expr_split.specs.DeclaredTable.{input_table};
@@ -69,6 +70,7 @@ fn save_run<'a>(
     requires plan { IsReadyPlan plan room.spad }
     requires lanes { IsUpTo most_lanes room.lanes }
     requires spad { IsUpTo cell_limit room.spad }
+    requires pairs { ArePairs arrays.now }
     requires fits { Fits arrays.now (input_table (program_of plan.program)) }
     ensures { saves_run image.now (planned plan) room.lanes room.spad arrays.now grants.now (as_stage answer_of result) }
 {

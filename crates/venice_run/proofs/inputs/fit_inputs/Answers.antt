@@ -18,3 +18,6 @@ pub returns-in-Ok-clause-inputs : goal.returns-in-Ok-clause-inputs
 returns-in-Ok-clause-inputs c =
     let table = c.deref.ensures.value ∙ c.in_ok-table.ensures ∙ ap (λ stmts. input_table (program_of stmts)) (c.as_slice.ensures.value ∙ c.program.view_is) in
     c.table_fits.ensures.inputs _ _ (subst ArePairs c.arrays.view_is c.arrays.invariant) (rw table at c.in-Ok.ensures)
+
+pub returns-in-Ok-clause-pairs : goal.returns-in-Ok-clause-pairs
+returns-in-Ok-clause-pairs c = subst ArePairs c.arrays.view_is c.arrays.invariant
