@@ -1,4 +1,4 @@
-`run` compiles a program, saves its image, runs the saved bytes on the machine, and prints the outputs, the steps and the cycles.
+`run` compiles a program, runs the image that its bytes spell on the machine, saves these bytes, and prints the outputs, the steps and the cycles.
 
   $ venice() { "$TESTDIR/../../venice" "$@"; }
   $ cat > add.ven <<END
