@@ -41,6 +41,8 @@ pub fn compile(alloc: Global, program: &Checked, spad: u32) -> Result<Image, Com
     requires some { 1 ≤ spad }
     requires few { spad ≤ cell_limit }
     ensures good { IfOk result (λ image. Good image (program_of program.now) spad) }
+    ensures is { IfOk result (λ image. (split : Denoted) → IsSplitOf (program_of program.now) split
+        → image ≡ image_with split spad (code_for split spad)) }
     ensures room { IfOk result
         (λ image. (split : Denoted) → IsSplitOf (program_of program.now) split → need_of split.passes ≤ spad) }
     ensures fault { IfErr result (IsNoImage (program_of program.now) spad) }

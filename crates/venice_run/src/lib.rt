@@ -25,7 +25,7 @@
 //! `Images` and `Grants` there have the stages that commands share. `run`, `build` and `asm` save.
 //!
 //! What `run` and `build` save is the image of the program: it is `Good` for it (good_images, specs/Good.antt), and the
-//! one that the program and SPAD have. `run` reads the saved bytes back and runs what it has read; its text is what the
+//! one that the program and SPAD have. `run` runs what it reads back from the bytes that it saves; its text is what the
 //! program means, and the steps and cycles of that image's run on the inputs, lanes, scratchpad and grants.
 //!
 //! Commands only read (`OnlyLoads`) and answer an `Answer`: a save, a text, and the refusal that the text ends in,
