@@ -1,5 +1,5 @@
 -- The image of a program: its run on inputs of the program comes to HALT, and prints the program's meaning.
-use Rattle.std.proofs.Common.{◌≡◌, ℕ, ◌≤◌, List, ◌++◌, arith, ap, subst}
+use Rattle.std.proofs.Common.{◌≡◌, ℕ, List, ◌++◌, arith, ap, subst}
 use Rattle.ven_base.specs.Limits.{cell_limit}
 use Rattle.ven_base.specs.Pairs.{Pairs, ArePairs}
 use Rattle.array_file.specs.Fitting.{Fits}

@@ -1,4 +1,4 @@
-use Rattle.std.proofs.Common.{List, Result, subst}
+use Rattle.std.proofs.Common.{List, subst}
 use Rattle.std.proofs.lemmas.Result.{IfOk-weaker}
 use Rattle.shape_check.specs.declared.checked.CheckedStmt.{CheckedStmt}
 use Rattle.shape_check.specs.Checked.{program_of, IsCheckedProgram}

@@ -1,4 +1,4 @@
-use Rattle.std.proofs.Common.{ℕ, ◌+◌, ◌≤◌, length, subst, arith}
+use Rattle.std.proofs.Common.{◌+◌, ◌≤◌, subst, arith}
 use Rattle.venice_isa.specs.Code.{IsCode}
 use Rattle.venice_isa.specs.Limits.{instruction_limit}
 use Rattle.pass_plan.specs.Shown.{split_of}

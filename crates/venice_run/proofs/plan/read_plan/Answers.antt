@@ -3,7 +3,7 @@ use Rattle.shape_check.specs.Checked.{program_of}
 use Rattle.venice_run.specs.Plan.{plan_of, plan_under}
 use Rattle.venice_run.specs.Plans.{planned}
 use Rattle.venice_run.specs.Stage.{Goes, as_stage}
-use Rattle.venice_run.proofs.NoFile.{loads_more, counts_none, plan_no_file, went_well}
+use Rattle.venice_run.proofs.NoFile.{counts_none, plan_no_file, went_well}
 use Rattle.venice_run.proofs.Stages.{ends}
 use Rattle.venice_run.proofs.plan.read_plan.Goals as goal
 

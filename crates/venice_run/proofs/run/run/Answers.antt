@@ -1,14 +1,10 @@
-use Rattle.std.proofs.Common.{List, ap, subst, sym, ◌∙◌, Err}
-use Rattle.std.proofs.lemmas.Result.{err_from_is_err_and}
-use Rattle.shape_check.specs.Checked.{program_of}
-use Rattle.venice_run.specs.declared.plan.Plan.{Plan}
+use Rattle.std.proofs.Common.{subst}
 use Rattle.venice_run.specs.Answer.{answer_of}
 use Rattle.venice_run.specs.Compiled.{saves_run}
 use Rattle.venice_run.specs.Plans.{planned}
 use Rattle.venice_run.specs.Run.{run}
 use Rattle.venice_run.specs.Stage.{Goes, as_stage}
-use Rattle.venice_run.proofs.NoFile.{loads_more, counts_none, err_is, went_well, run_saved_no_file}
-use Rattle.venice_run.proofs.Promised.{counts_same}
+use Rattle.venice_run.proofs.NoFile.{loads_more, counts_none, went_well, run_saved_no_file}
 use Rattle.venice_run.proofs.Stages.{ends}
 use Rattle.venice_run.proofs.run.run.Goals as goal
 

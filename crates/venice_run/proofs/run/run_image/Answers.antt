@@ -1,4 +1,4 @@
-use Rattle.std.proofs.Common.{◌≡◌, sym, ap, ◌∙◌}
+use Rattle.std.proofs.Common.{ap, ◌∙◌}
 use Rattle.venice_machine.specs.Run.{run}
 use Rattle.venice_machine.specs.Start.{start_state}
 use Rattle.venice_machine.specs.State.{Setup}
