@@ -35,8 +35,8 @@ pub enum CompileFault {
     Memory,
 }
 
-/// The image of a program for a scratchpad of `spad` bytes, 1 to 1,048,576. `Scratchpad` exactly where that is below the
-/// program's need.
+/// The image of a program for a scratchpad of `spad` bytes, 1 to 1,048,576. `Scratchpad` exactly where that is below
+/// the program's need.
 pub fn compile(alloc: Global, program: &Checked, spad: u32) -> Result<Image, CompileFault>
     requires some { 1 ≤ spad }
     requires few { spad ≤ cell_limit }

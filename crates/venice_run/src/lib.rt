@@ -37,8 +37,8 @@
 //! status 15 is not the top call's).
 //!
 //! Beside it: `read_words` gives the command that the words spell, and none exactly where they spell none.
-//! `Ending::status`, `Ending::line` and `Refusal::status` have each status and line. `compile` is the image of a checked
-//! program, good for it, or says that the scratchpad holds less than its need.
+//! `Ending::status`, `Ending::line` and `Refusal::status` have each status and line. `compile` is the image of a
+//! checked program, good for it, or says that the scratchpad holds less than its need.
 #![tactic(auto)]
 
 mod answer;
