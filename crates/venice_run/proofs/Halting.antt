@@ -25,8 +25,8 @@ use Rattle.venice_run.specs.Stage.{as_stage, gives}
 use Rattle.venice_run.proofs.Answered.{no_misfit}
 
 -- out of memory, at the exit of a `?`
-pub memory_ends : {A C : Type 0} (is : A → Type 0) (view : C → A) (ending : Ending) (r : Result C Ending) → IsErrAnd r (λ e. e ≡ ending) → ending ≡ Failed Memory
-    → gives is (as_stage view r)
+pub memory_ends : {A C : Type 0} (is : A → Type 0) (view : C → A) (ending : Ending) (r : Result C Ending)
+    → IsErrAnd r (λ e. e ≡ ending) → ending ≡ Failed Memory → gives is (as_stage view r)
 memory_ends {A} {C} is view ending r exit same =
     let p = err_from_is_err_and r exit in
     subst (λ (x : Result C Ending). gives is (as_stage view x)) (sym p.1) (p.2 ∙ same)
@@ -52,6 +52,7 @@ pub reads_back : (image loaded : ImageContents) (bytes : List ℕ) → IsImage i
 unfolding image_in
 reads_back image loaded bytes is_image is loading = loading.only image is_image is
 
-pub reading_ends : (image : ImageContents) (bytes : List ℕ) (ending : Ending) → IsImage image → bytes ≡ spelling image → image_in bytes (Err ending) → ending ≡ Failed Memory
+pub reading_ends : (image : ImageContents) (bytes : List ℕ) (ending : Ending) → IsImage image → bytes ≡ spelling image
+    → image_in bytes (Err ending) → ending ≡ Failed Memory
 unfolding image_in
 reading_ends image bytes ending is_image is loading = loading.2 ∙ ap image_ending (loading.1.only image is_image is)

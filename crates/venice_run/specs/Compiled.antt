@@ -51,7 +51,7 @@ resources_for planned lanes spad = record { lanes = lanes; spad = spad; budget =
 abbrev pub compiled_text : Planned → Pairs → State → List ℕ
 compiled_text planned arrays end = arrays_text (meaning_of planned.program arrays) ++ counts_text (counts_of end)
 
--- the image is saved, and the meaning is printed with the counts of this image's run on these arrays, under these grants
+-- the image is saved, and the meaning is printed with the counts of this image's run on these arrays and grants
 unfoldable pub saves_run : (image : List ℕ) → Planned → (lanes spad : ℕ) → Pairs → (grants : List ℕ) → Stage Answer
 saves_run image planned lanes spad arrays grants = do
   made ← compiled planned spad

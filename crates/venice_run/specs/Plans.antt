@@ -11,7 +11,8 @@ use Rattle.venice_run.specs.Plan.{Planned}
 abbrev pub planned : Plan → Planned
 planned plan = record { program = program_of plan.program; split = split_of plan.split }
 
--- its program is checked, and it is the program's split, of few leaves and nodes, whose need a scratchpad of so many bytes holds
+-- its program is checked, and it is the program's split, of few leaves and nodes, whose need a scratchpad of so many
+-- bytes holds
 pub record IsReadyPlan (plan : Plan) (spad : ℕ) : Type 0 where
   pub checked : IsCheckedProgram (program_of plan.program)
   pub is_split : IsSplitOf (program_of plan.program) (split_of plan.split)

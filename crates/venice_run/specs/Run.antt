@@ -1,5 +1,5 @@
--- The command `run`: it compiles a program, saves its image, and prints what the image's run on the machine leaves, which
--- is what the program means, with the run's steps and cycles.
+-- The command `run`: it compiles a program, saves its image, and prints what the image's run on the machine leaves,
+-- which is what the program means, with the run's steps and cycles.
 use Rattle.std.specs.Prelude.{ℕ, List, Option}
 use Rattle.ven_io.specs.Files.{Behaviour}
 use Rattle.expr_split.specs.DeclaredTable.{input_table}

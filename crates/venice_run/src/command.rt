@@ -9,8 +9,8 @@ use crate::request::request_of;
 /// their places.
 #[derive(Clone, Copy)]
 pub enum Command {
-    /// `run PROGRAM INPUTS IMAGE LANES SPAD [GRANTS]`: 1 to 4 lanes, a scratchpad of 1 to 1,048,576 bytes; `grants` says
-    /// whether GRANTS is there.
+    /// `run PROGRAM INPUTS IMAGE LANES SPAD [GRANTS]`: 1 to 4 lanes, a scratchpad of 1 to 1,048,576 bytes; `grants`
+    /// says whether GRANTS is there.
     Run {
         lanes: u32,
         spad: u32,

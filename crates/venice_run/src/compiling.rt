@@ -35,12 +35,14 @@ pub enum CompileFault {
     Memory,
 }
 
-/// The image of a program for a scratchpad of `spad` bytes, 1 to 1,048,576. `Scratchpad` exactly where that is below the
-/// program's need.
+/// The image of a program for a scratchpad of `spad` bytes, 1 to 1,048,576. `Scratchpad` exactly where that is below
+/// the program's need.
 pub fn compile(alloc: Global, program: &Checked, spad: u32) -> Result<Image, CompileFault>
     requires some { 1 ≤ spad }
     requires few { spad ≤ cell_limit }
     ensures good { IfOk result (λ image. Good image (program_of program.now) spad) }
+    ensures is { IfOk result (λ image. (split : Denoted) → IsSplitOf (program_of program.now) split
+        → image ≡ image_with split spad (code_for split spad)) }
     ensures room { IfOk result
         (λ image. (split : Denoted) → IsSplitOf (program_of program.now) split → need_of split.passes ≤ spad) }
     ensures fault { IfErr result (IsNoImage (program_of program.now) spad) }

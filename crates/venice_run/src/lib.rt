@@ -25,7 +25,7 @@
 //! `Images` and `Grants` there have the stages that commands share. `run`, `build` and `asm` save.
 //!
 //! What `run` and `build` save is the image of the program: it is `Good` for it (good_images, specs/Good.antt), and the
-//! one that the program and SPAD have. `run` reads the saved bytes back and runs what it has read; its text is what the
+//! one that the program and SPAD have. `run` runs what it reads back from the bytes that it saves; its text is what the
 //! program means, and the steps and cycles of that image's run on the inputs, lanes, scratchpad and grants.
 //!
 //! Commands only read (`OnlyLoads`) and answer an `Answer`: a save, a text, and the refusal that the text ends in,
@@ -37,8 +37,8 @@
 //! status 15 is not the top call's).
 //!
 //! Beside it: `read_words` gives the command that the words spell, and none exactly where they spell none.
-//! `Ending::status`, `Ending::line` and `Refusal::status` have each status and line. `compile` is the image of a checked
-//! program, good for it, or says that the scratchpad holds less than its need.
+//! `Ending::status`, `Ending::line` and `Refusal::status` have each status and line. `compile` is the image of a
+//! checked program, good for it, or says that the scratchpad holds less than its need.
 #![tactic(auto)]
 
 mod answer;

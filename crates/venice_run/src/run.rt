@@ -35,8 +35,8 @@ use ven_base::Arrays;
 use ven_io::Files;
 use venice_machine::Grants;
 
-/// It compiles PROGRAM, saves its image under the name IMAGE, runs it on INPUTS under GRANTS, and prints the outputs and
-/// the counts, or comes to its first refusal. Files are only read here; the save comes with the answer.
+/// It compiles PROGRAM, saves its image under the name IMAGE, runs it on INPUTS under GRANTS, and prints the outputs
+/// and the counts, or comes to its first refusal. Files are only read here; the save comes with the answer.
 pub(crate) fn run<'a, F: Files>(
     alloc: Global,
     files: &mut F,
@@ -72,7 +72,8 @@ fn save_run<'a>(
     requires spad { IsUpTo cell_limit room.spad }
     requires pairs { ArePairs arrays.now }
     requires fits { Fits arrays.now (input_table (program_of plan.program)) }
-    ensures { saves_run image.now (planned plan) room.lanes room.spad arrays.now grants.now (as_stage answer_of result) }
+    ensures { saves_run image.now (planned plan) room.lanes room.spad arrays.now grants.now
+        (as_stage answer_of result) }
 {
     split_laws();
     size_laws();

@@ -20,7 +20,7 @@ unfolding check
 returns-clause-answer g c =
     let program = ap program_of c.as_slice.ensures.value ∙ ap (λ (plan : Plan). program_of plan.program) c.plan.view_is in
     let passes = ap passes_of c.deref.ensures.value ∙ ap (λ (plan : Plan). passes_of plan.split.passes.items) c.plan.view_is in
-    let of_program =
-    subst (λ (p : List Statement). prints (plan_text p (passes_of c.deref.result.now) c.args.spad) (as_stage answer_of c.print_plan.result)) program c.print_plan.ensures in
+    let printed = as_stage answer_of c.print_plan.result in
+    let of_program = subst (λ (p : List Statement). prints (plan_text p (passes_of c.deref.result.now) c.args.spad) printed) program c.print_plan.ensures in
     Goes (planned c.in_ok-plan.plan) c.in_ok-plan.ensures.read
-    (subst (λ (p : List Pass). prints (plan_text (program_of c.in_ok-plan.plan.program) p c.args.spad) (as_stage answer_of c.print_plan.result)) passes of_program)
+    (subst (λ (p : List Pass). prints (plan_text (program_of c.in_ok-plan.plan.program) p c.args.spad) printed) passes of_program)

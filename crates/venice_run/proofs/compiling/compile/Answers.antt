@@ -4,6 +4,8 @@ use Rattle.pass_plan.specs.declared.pass.Pass.{Pass}
 use Rattle.pass_plan.specs.Need.{need_of}
 use Rattle.pass_plan.specs.Shown.{split_of, passes_of}
 use Rattle.pass_plan.specs.Sound.{Split}
+use Rattle.host_codegen.specs.CodeOf.{code_for}
+use Rattle.good_images.specs.Laws.{image_with}
 use Rattle.venice_run.proofs.compiling.compile.Goals as goal
 
 pub need-requires : goal.need-requires
@@ -32,3 +34,8 @@ returns-in-Ok-image_of-clause-room c = λ split is.
     let need : c.need.result ≡ need_of split.passes =
     c.need.ensures ∙ ap (λ (passes : List Pass). need_of (passes_of passes)) c.deref.ensures.value ∙ ap (λ (s : Split). need_of s.passes) same in
     rw (need) at c.in_default-check_room.ensures
+
+pub returns-in-Ok-image_of-clause-is : goal.returns-in-Ok-image_of-clause-is
+returns-in-Ok-image_of-clause-is c = λ split is.
+    let same = c.split_laws.ensures.one (program_of c.args.program.now) (split_of c.in-Ok.split) split c.in-Ok.ensures.is_split is in
+    c.in-Ok-image_of.ensures.is ∙ ap (λ (s : Split). image_with s c.args.spad (code_for s c.args.spad)) same

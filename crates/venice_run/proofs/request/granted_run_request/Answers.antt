@@ -29,8 +29,8 @@ returns c =
         c.deref-5.ensures,
         c.deref-6.ensures,
       )
-          (seven c.args.words.now c.word-item.result c.program-item.result c.inputs-item.result c.image-item.result c.lanes-item.result c.spad-item.result c.grants-item.result
-          c.in-len7.len_at_least c.in-len7.len_below
+          (seven c.args.words.now c.word-item.result c.program-item.result c.inputs-item.result c.image-item.result c.lanes-item.result c.spad-item.result
+          c.grants-item.result c.in-len7.len_at_least c.in-len7.len_below
           c.word-item.is c.program-item.is c.inputs-item.is c.image-item.is c.lanes-item.is c.spad-item.is c.grants-item.is);
       in_range = (c.in_ok-lanes.ensures.0, c.in_ok-spad.ensures.0);
     }

@@ -12,4 +12,5 @@ returns c =
       free_exec = c.in_default-free_exec_request.ensures;
       granted_exec = c.in_default-granted_exec_request.ensures;
     })
-    c.in_default-eval_request.ensures c.in_default-check_request.ensures c.in_default-explain_request.ensures c.in_default-asm_request.ensures c.disasm_request.ensures
+    c.in_default-eval_request.ensures c.in_default-check_request.ensures c.in_default-explain_request.ensures c.in_default-asm_request.ensures
+    c.disasm_request.ensures

@@ -23,7 +23,8 @@ unfolding run
 returns-in_err-list-clause-answer g c =
     Goes (planned c.in_ok-plan.plan) c.in_ok-plan.ensures.read
     (Goes c.in_ok-arrays.arrays (rw c.in_ok-plan.ensures.only.content at c.in_ok-arrays.ensures.read)
-    (ends answer_of _ _ c.from_residual-in_err-list.ensures.1 (rw (c.in_ok-arrays.ensures.only.content, c.in_ok-plan.ensures.only.content) at c.in_err-list.ensures.read)))
+    (ends answer_of _ _ c.from_residual-in_err-list.ensures.1
+    (rw (c.in_ok-arrays.ensures.only.content, c.in_ok-plan.ensures.only.content) at c.in_err-list.ensures.read)))
 
 pub returns-clause-answer : goal.returns-clause-answer
 unfolding run
@@ -36,13 +37,15 @@ returns-clause-answer g c =
 pub returns-clause-only : goal.returns-clause-only
 returns-clause-only g c =
     let last = c.in_ok-list.ensures.only in
+    let plan = planned c.in_ok-plan.plan in
+    let room = c.args.room in
     loads_more (went_well _) c.in_ok-plan.ensures.only
     (loads_more (went_well _) c.in_ok-arrays.ensures.only
     (record {
       content = last.content;
       loads = counts_none _ _ (went_well _)
-          (λ e. run_saved_no_file c.args.image.now (planned c.in_ok-plan.plan) c.args.room.lanes c.args.room.spad c.in_ok-arrays.arrays c.in_ok-list.list
-          (subst (λ r. saves_run c.args.image.now (planned c.in_ok-plan.plan) c.args.room.lanes c.args.room.spad c.in_ok-arrays.arrays c.in_ok-list.list (as_stage answer_of r)) e
+          (λ e. run_saved_no_file c.args.image.now plan room.lanes room.spad c.in_ok-arrays.arrays c.in_ok-list.list
+          (subst (λ r. saves_run c.args.image.now plan room.lanes room.spad c.in_ok-arrays.arrays c.in_ok-list.list (as_stage answer_of r)) e
           c.save_run.ensures))
           last.loads;
       saves = last.saves;

@@ -13,7 +13,8 @@ returns-in_err-machine c =
 pub returns-in_err-counts : goal.returns-in_err-counts
 returns-in_err-counts c =
     let start = start_state c.args.image c.args.arrays.now c.args.resources.spad in
-    absurd (never_stops c.args.image c.args.resources c.args.arrays.now c.requires.halts c.args.grants.now c.in_ok-machine.machine.setup c.in_ok-machine.ensures.setup _
+    absurd (never_stops c.args.image c.args.resources c.args.arrays.now c.requires.halts c.args.grants.now
+    c.in_ok-machine.machine.setup c.in_ok-machine.ensures.setup _
     (c.in_err-counts.ensures.answer start c.in_ok-machine.ensures.start))
 
 pub returns : goal.returns

@@ -29,7 +29,8 @@ unfolding saves_run compiled
 returns-in_err-loaded c =
     let plan = planned c.args.plan in
     let good = c.in_ok-bytes.ensures.good plan.program c.requires.plan.checked c.requires.plan.is_split in
-    let memory = reading_ends (made plan c.args.room.spad) c.in_ok-bytes.bytes.items _ good.is_image c.in_ok-bytes.ensures.spelled (rw c.deref-2.ensures.value at c.in_err-loaded.ensures) in
+    let memory = reading_ends (made plan c.args.room.spad) c.in_ok-bytes.bytes.items _ good.is_image c.in_ok-bytes.ensures.spelled
+    (rw c.deref-2.ensures.value at c.in_err-loaded.ensures) in
     ends answer_of _ _ c.from_residual-in_err-loaded.ensures.1 memory
 
 pub run_image-requires-clause-range : goal.run_image-requires-clause-range
@@ -47,8 +48,10 @@ run_image-requires-clause-halts c =
     let arrays = c.args.arrays.now in
     let good = c.in_ok-bytes.ensures.good plan.program c.requires.plan.checked c.requires.plan.is_split in
     let budget_is : c.bound.result ≡ bound_of plan.split.passes = c.bound.ensures ∙ ap (λ passes. bound_of (passes_of passes)) c.deref.ensures.value in
-    let loaded_is = reads_back (made plan spad) c.in_ok-loaded.loaded c.in_ok-bytes.bytes.items good.is_image c.in_ok-bytes.ensures.spelled (rw c.deref-2.ensures.value at c.in_ok-loaded.ensures) in
-    let halts = halts_on plan lanes spad arrays c.split_laws.ensures.one good c.requires.plan.is_split c.requires.lanes c.requires.spad c.requires.pairs c.requires.fits c.table_fits.ensures.tables in
+    let loaded_is = reads_back (made plan spad) c.in_ok-loaded.loaded c.in_ok-bytes.bytes.items good.is_image c.in_ok-bytes.ensures.spelled
+    (rw c.deref-2.ensures.value at c.in_ok-loaded.ensures) in
+    let halts = halts_on plan lanes spad arrays c.split_laws.ensures.one good c.requires.plan.is_split c.requires.lanes c.requires.spad c.requires.pairs
+    c.requires.fits c.table_fits.ensures.tables in
     subst (λ (image : ImageContents). HaltsOn image (resources_with lanes spad c.bound.result) arrays) (sym loaded_is)
     (subst (λ (budget : ℕ). HaltsOn (made plan spad) (resources_with lanes spad budget) arrays) (sym budget_is) halts)
 
@@ -66,11 +69,13 @@ returns c =
     let grants = c.args.grants.now in
     let good = c.in_ok-bytes.ensures.good plan.program c.requires.plan.checked c.requires.plan.is_split in
     let budget_is : c.bound.result ≡ bound_of plan.split.passes = c.bound.ensures ∙ ap (λ passes. bound_of (passes_of passes)) c.deref.ensures.value in
-    let loaded_is = reads_back (made plan spad) c.in_ok-loaded.loaded c.in_ok-bytes.bytes.items good.is_image c.in_ok-bytes.ensures.spelled (rw c.deref-2.ensures.value at c.in_ok-loaded.ensures) in
+    let loaded_is = reads_back (made plan spad) c.in_ok-loaded.loaded c.in_ok-bytes.bytes.items good.is_image c.in_ok-bytes.ensures.spelled
+    (rw c.deref-2.ensures.value at c.in_ok-loaded.ensures) in
     let text = c.in_ok-text.ensures
     ∙ ap (λ (image : ImageContents). run_text image.arrays (end_of_run image (resources_with lanes spad c.bound.result) arrays grants)) loaded_is
     ∙ ap (λ (budget : ℕ). run_text plan.split.table (end_of_run (made plan spad) (resources_with lanes spad budget) arrays grants)) budget_is
-    ∙ text_is plan lanes spad arrays c.split_laws.ensures.one good c.requires.plan.is_split c.requires.lanes c.requires.spad c.requires.pairs c.requires.fits grants in
+    ∙ text_is plan lanes spad arrays c.split_laws.ensures.one good c.requires.plan.is_split c.requires.lanes c.requires.spad c.requires.pairs
+    c.requires.fits grants in
     Goes (made plan spad) (record { good = good; is = refl })
     (c.saving.ensures ∙ ap (λ (bytes : List ℕ). saved c.args.image.now bytes c.in_ok-text.text.items) c.in_ok-bytes.ensures.spelled
     ∙ ap (λ (t : List ℕ). saved c.args.image.now (spelling (made plan spad)) t) text)
