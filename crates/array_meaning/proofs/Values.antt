@@ -1,6 +1,6 @@
 -- The values of a node's array, from those of its operands.
 use Rattle.std.proofs.Common.{◌≡◌, ℕ, ◌+◌, ◌*◌, ◌/◌, ◌%◌, ◌<◌, ◌≤◌, List, [], ◌∷◌, length, drop, get_or, map, refl, sym, ap, ◌∙◌, subst, arith, Option, None, Some, false, Vec, Global}
-use Rattle.std.specs.Prelude.{ℤ, pos, All, IfSome}
+use Rattle.std.specs.Prelude.{ℤ, pos, All, IfSome, IfOk, Result}
 use Rattle.std.specs.Option.{option_map_or}
 use Rattle.std.specs.List.{range_with_len}
 use Rattle.std.proofs.lemmas.List.{ext_get_or, get_or-take, get_or-drop, length-take, length-drop}
@@ -15,7 +15,7 @@ use Rattle.ven_base.specs.declared.ops.Op2.{Op2}
 use Rattle.ven_base.specs.declared.ops.Fold as ops
 use Rattle.ven_base.specs.declared.mapping.Mapping.{Mapping}
 use Rattle.ven_base.specs.Elem.{IsElement}
-use Rattle.ven_base.specs.Extent.{Extent, IsExtent, IsIndex, elements_of}
+use Rattle.ven_base.specs.Extent.{Extent, IsExtent, IsIndex, elements_of, element_limit}
 use Rattle.ven_base.specs.Wrap.{wrapped}
 use Rattle.ven_base.specs.Operation.{applied1, applied2}
 use Rattle.ven_base.specs.Folding.{folded}
@@ -123,6 +123,9 @@ whole_value arrays e shape f v same is h = record {
 pub of_node : (arrays : List Grid) (m n : Node) (o : Operand) → m ≡ n → IsValueOf arrays n o → IsValueOf arrays m o
 of_node arrays m n o is h = subst (λ (e : Node). IsValueOf arrays e o) (sym is) h
 
+pub of_result : {E : Type 0} (arrays : List Grid) (m n : Node) (r : Result Operand E) → m ≡ n → IfOk r (IsValueOf arrays n) → IfOk r (IsValueOf arrays m)
+of_result arrays m n r is h = subst (λ (e : Node). IfOk r (IsValueOf arrays e)) (sym is) h
+
 -- ---- nodes with a value at each place of their operands
 
 pub one_value : (arrays : List Grid) (elem : Elem) (shape : Extent) (op : Op1) (a : Node) (x : Operand) (vx : View) (count : ℕ) (v : Vec ℤ Global) → IsReady arrays (One elem shape op a) → IsValueOf arrays a x → IsViewOf x vx → count ≡ elements_of shape
@@ -210,6 +213,18 @@ pub slice_in : (arrays : List Grid) (e : Node) (o : Operand) (elem : Elem) → I
 slice_in arrays e o elem r h plain same =
     subst (All (IsElement elem)) (sym (whole_list arrays e o r h plain))
     (subst (λ (t : Elem). All (IsElement t) (values_with (shape_of e) (expr_at arrays e))) same (values_with-all (IsElement (elem_of e)) (shape_of e) (expr_at arrays e) (expr_at-IsElement r.types arrays e r.stands r.typed)))
+
+-- there is at least one of them, and there are few
+pub slice_some : (arrays : List Grid) (e : Node) (o : Operand) → IsReady arrays e → IsValueOf arrays e o → is_literal e ≡ false → 0 < length (list_of o)
+slice_some arrays e o r h plain =
+    let extent = extent_of arrays e r plain in
+    let first : IsIndex (shape_of e) 0 0 = record { row = omega (arith, extent.some_rows); col = omega (arith, extent.some_cols) } in
+    let some : 0 < elements_of (shape_of e) = omega (arith, place_below (shape_of e) 0 0 first) in
+    subst (λ (n : ℕ). 0 < n) (sym (slice_length arrays e o h plain ∙ ap elements_of h.shape_is)) some
+
+pub slice_few : (arrays : List Grid) (e : Node) (o : Operand) → IsReady arrays e → IsValueOf arrays e o → is_literal e ≡ false → length (list_of o) ≤ element_limit
+slice_few arrays e o r h plain =
+    subst (λ (n : ℕ). n ≤ element_limit) (sym (slice_length arrays e o h plain ∙ ap elements_of h.shape_is)) (extent_of arrays e r plain).within
 
 -- ---- index maps
 

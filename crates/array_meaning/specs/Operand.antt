@@ -1,5 +1,5 @@
 -- Inner: the values that a node's array has in code.
-use Rattle.std.specs.Prelude.{◌≡◌, ℕ, ℤ, pos, ◌+◌, ◌*◌, ◌<◌, List, length, slice_index_or, false}
+use Rattle.std.specs.Prelude.{◌≡◌, ℕ, ℤ, pos, ◌+◌, ◌*◌, ◌<◌, List, length, slice_index_or, false, Result, IfOk}
 use Rattle.ven_base.specs.declared.elem.Elem.{Elem}
 use Rattle.ven_base.specs.Extent.{Extent, IsIndex, elements_of}
 use Rattle.ven_base.specs.Grid.{Grid}
@@ -83,7 +83,23 @@ pub record IsReady (arrays : List Grid) (e : Node) : Type 0 where
   pub stands : Stands types arrays
   pub typed : IsTyped types e
 
--- those in the statement
+-- ---- nodes of one operand
+
+-- the operand has the values of some node, and what is made of that node has its names' arrays
+pub record IsReadyFor (make : Node → Node) (a : Operand) : Type 0 where
+  pub arrays : List Grid
+  pub node : Node
+  pub ready : IsReady arrays (make node)
+  pub value : IsValueOf arrays node a
+
+-- the result has the values of what is made of a node, whichever node the operand has the values of
+abbrev pub Makes : {E : Type 0} → (Node → Node) → Operand → Result Operand E → Type 0
+Makes make a result = (arrays : List Grid) (e : Node) → IsReady arrays (make e) → IsValueOf arrays e a
+    → IfOk result (IsValueOf arrays (make e))
+
+-- ---- statements
+
+-- the names in the statement have these arrays
 pub record IsStatementReady (arrays : List Grid) (statement : Statement) : Type 0 where
   pub types : List ArrayType
   pub stands : Stands types arrays

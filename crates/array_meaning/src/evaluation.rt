@@ -6,10 +6,9 @@ ghost use Rattle.array_meaning.specs.Operand.{IsValueOf, IsReady};
 ghost use Rattle.array_meaning.specs.Store.{grids_of};
 
 use crate::kernel;
-use crate::maps::mapped;
 use crate::operand::{Operand, Values};
-use crate::reduce::{reduced, reduced_rows};
 use crate::store::Stored;
+use crate::unary::{cast, map, one, rows, whole};
 use shape_check::{Typed, TypedKind};
 use std::alloc::{AllocError, Global};
 
@@ -33,65 +32,23 @@ pub(crate) fn value_of<'a>(
             shape,
             values: Values::Same([*value]),
         }),
-        TypedKind::One(op, a) => {
-            let a = value_of(alloc, arrays, a)?;
-            let values = kernel::one(alloc, *op, elem, count, a.view())?;
-            Ok(Operand {
-                shape,
-                values: Values::Own(values),
-            })
-        }
+        TypedKind::One(op, a) => one(alloc, *op, elem, shape, value_of(alloc, arrays, a)?),
         TypedKind::Two(op, a, b) => {
             let a = value_of(alloc, arrays, a)?;
             let b = value_of(alloc, arrays, b)?;
             let values = kernel::two(alloc, *op, elem, count, a.view(), b.view())?;
-            Ok(Operand {
-                shape,
-                values: Values::Own(values),
-            })
+            Ok(Operand::own(shape, values))
         }
-        TypedKind::Cast(a) => {
-            let a = value_of(alloc, arrays, a)?;
-            let values = kernel::cast(alloc, elem, count, a.view())?;
-            Ok(Operand {
-                shape,
-                values: Values::Own(values),
-            })
-        }
+        TypedKind::Cast(a) => cast(alloc, elem, shape, value_of(alloc, arrays, a)?),
         TypedKind::Select(c, x, y) => {
             let c = value_of(alloc, arrays, c)?;
             let x = value_of(alloc, arrays, x)?;
             let y = value_of(alloc, arrays, y)?;
             let values = kernel::select(alloc, count, c.view(), x.view(), y.view())?;
-            Ok(Operand {
-                shape,
-                values: Values::Own(values),
-            })
+            Ok(Operand::own(shape, values))
         }
-        TypedKind::Map(mapping, a) => {
-            let a = value_of(alloc, arrays, a)?;
-            let values = mapped(alloc, *mapping, a.shape, a.slice())?;
-            Ok(Operand {
-                shape,
-                values: Values::Own(values),
-            })
-        }
-        TypedKind::RowFold(fold, a) => {
-            let a = value_of(alloc, arrays, a)?;
-            let values = reduced_rows(alloc, *fold, elem, a.shape, a.slice())?;
-            Ok(Operand {
-                shape,
-                values: Values::Own(values),
-            })
-        }
-        TypedKind::Fold(fold, a) => {
-            let a = value_of(alloc, arrays, a)?;
-            let value = reduced(*fold, elem, a.slice());
-            let values = Vec::from_slice(alloc, &[value])?;
-            Ok(Operand {
-                shape,
-                values: Values::Own(values),
-            })
-        }
+        TypedKind::Map(mapping, a) => map(alloc, *mapping, shape, value_of(alloc, arrays, a)?),
+        TypedKind::RowFold(fold, a) => rows(alloc, *fold, elem, shape, value_of(alloc, arrays, a)?),
+        TypedKind::Fold(fold, a) => whole(alloc, *fold, elem, shape, value_of(alloc, arrays, a)?),
     }
 }

@@ -17,5 +17,6 @@ mod operand;
 mod outputs;
 mod reduce;
 mod store;
+mod unary;
 
 pub use outputs::eval;

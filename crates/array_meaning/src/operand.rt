@@ -2,6 +2,7 @@
 
 ghost use Rattle.std.specs.Prelude.{◌≡◌};
 ghost use Rattle.array_meaning.specs.Operand.{number_in, Reaches, IsViewOf, IsSlice, list_of};
+ghost use Rattle.array_meaning.specs.declared.operand.Values.TheVariants as kinds;
 
 use ven_base::Shape;
 
@@ -30,6 +31,16 @@ pub struct View<'a> {
 }
 
 impl<'a> Operand<'a> {
+    /// An array with values of its own.
+    pub fn own(shape: Shape, values: Vec<i64>) -> Operand<'a>
+        ensures { result ≡ record { shape = shape; values = kinds.Own values } }
+    {
+        Operand {
+            shape,
+            values: Values::Own(values),
+        }
+    }
+
     /// The values where they stand.
     pub fn view(&self) -> View
         ensures { IsViewOf self.now result }
