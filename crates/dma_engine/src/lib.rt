@@ -6,6 +6,7 @@
 //! of a transfer together are its copy. docs/MACHINE.md says it in plain words.
 #![tactic(auto)]
 
+mod at_once;
 mod channel;
 mod current;
 mod direction;

@@ -14,7 +14,7 @@ ghost use Rattle.lane_machine.specs.Lanes.{IsFront, progress_in};
 use crate::current::Current;
 use crate::group::beat;
 use circular_buffer::HeapCircularBuffer;
-use spad_store::{MainMem, Spad, Unit};
+use spad_store::{MainMem, Spad, Unit, beat_by_beat};
 use std::alloc::{AllocError, Global};
 use std::marker::Model;
 use venice_isa::{VECTOR_PLACES, VecWork};
@@ -174,5 +174,16 @@ impl Unit for Lanes {
             self.current = begin_first(&self.queue, self.lanes);
         }
         true
+    }
+
+    fn spare(&self) -> u64 {
+        match (self.queue.front(), &self.current) {
+            (Some(work), Some(current)) => work.beats(self.lanes) - current.done - 1,
+            _ => u64::MAX,
+        }
+    }
+
+    fn beats(&mut self, count: u64, cells: &mut Spad, memory: &mut MainMem) {
+        beat_by_beat(self, count, cells, memory);
     }
 }

@@ -2,3 +2,5 @@ pub mod Queues
 pub mod Bits
 pub mod Words
 pub mod Packing
+pub mod Many
+pub mod Rounds

@@ -3,3 +3,4 @@ pub mod Sizes
 pub mod Packed
 pub mod Queue
 pub mod Tagged
+pub mod Many
