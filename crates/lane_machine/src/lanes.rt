@@ -11,10 +11,11 @@ ghost use Rattle.venice_isa.specs.Beat.{not_begun};
 ghost use Rattle.lane_machine.specs.State.{lane_course};
 ghost use Rattle.lane_machine.specs.Lanes.{IsFront, progress_in};
 
+use crate::at_once::beats;
 use crate::current::Current;
 use crate::group::beat;
 use circular_buffer::HeapCircularBuffer;
-use spad_store::{MainMem, Spad, Unit, beat_by_beat};
+use spad_store::{MainMem, Spad, Unit};
 use std::alloc::{AllocError, Global};
 use std::marker::Model;
 use venice_isa::{VECTOR_PLACES, VecWork};
@@ -183,7 +184,15 @@ impl Unit for Lanes {
         }
     }
 
-    fn beats(&mut self, count: u64, cells: &mut Spad, memory: &mut MainMem) {
-        beat_by_beat(self, count, cells, memory);
+    fn beats(&mut self, count: u64, cells: &mut Spad, _memory: &mut MainMem) {
+        let Some(work) = self.queue.front() else {
+            return;
+        };
+        let Some(current) = &mut self.current else {
+            return;
+        };
+        // A place in the cells is a number of 32 bits.
+        let _ = cells.len();
+        beats(self.lanes, work, current, count, cells);
     }
 }

@@ -3,4 +3,3 @@ pub mod Sizes
 pub mod Packed
 pub mod Queue
 pub mod Tagged
-pub mod Many

@@ -9,14 +9,12 @@
 mod flags;
 mod laws;
 mod memory;
-mod one_by_one;
 mod overtaking;
 mod spad;
 mod unit;
 
 pub use laws::exchange_laws;
 pub use memory::MainMem;
-pub use one_by_one::beat_by_beat;
 pub use overtaking::Overtaking;
 pub use spad::Spad;
 pub use unit::Unit;
