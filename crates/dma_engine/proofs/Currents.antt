@@ -47,7 +47,7 @@ unfolding done_of
 none_done work = omega arith
 
 module _ (current : Current) (under_way : IsUnderWay current) where
-  pub column_below : current.column / 16 < beats_of_row current.work.bytes 16
+  column_below : current.column / 16 < beats_of_row current.work.bytes 16
   column_below = omega (arith, under_way.in_row)
 
   -- the group that is next begins at the transfer's next byte

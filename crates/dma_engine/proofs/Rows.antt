@@ -1,19 +1,18 @@
 -- Several beats of a transfer at once are one move.
-use Rattle.std.proofs.Common.{◌≡◌, ◌⊎◌, inl, inr, ℕ, zero, suc, ◌+◌, ◌-◌, ◌*◌, ◌/◌, ◌%◌, ◌<◌, ◌≤◌, min, ap, sym, ◌∙◌, refl, subst, arith, List, [], ◌∷◌, ◌++◌, length, map, take, drop, Option, Some, None}
+use Rattle.std.proofs.Common.{◌≡◌, ◌⊎◌, inl, inr, ℕ, zero, suc, ◌+◌, ◌-◌, ◌*◌, ◌/◌, ◌<◌, ◌≤◌, ap, sym, ◌∙◌, refl, subst, arith, List, [], ◌∷◌, ◌++◌, length, map, take, drop, Option, Some, None}
 use Rattle.std.proofs.lemmas.Bool.{cases_lt}
 use Rattle.std.proofs.lemmas.Option.{none-some}
 use Rattle.std.proofs.lemmas.List.{length-map, length-append, length-take-le, map-append, append_assoc, drop-drop}
 use Rattle.std.proofs.Math.Seq.{take-add, take-append-add, take-append_seam, drop-append-add}
 use Rattle.ven_base.specs.Store.{Store, Size, store_size, IsInRange}
-use Rattle.ven_base.specs.Job.{Job, next_job, next_store, jobs_beaten, store_beaten, beats_on}
+use Rattle.ven_base.specs.Job.{Job, next_job, next_store, jobs_beaten, beats_on}
 use Rattle.ven_base.proofs.Jobs.{comes_on}
 use Rattle.ven_base.specs.Beats.{jobs_after_beats, store_after_beats, HasMore}
 use Rattle.venice_isa.specs.declared.work.DmaWork.{DmaWork}
 use Rattle.venice_isa.specs.Cell.{byte_of, clear, part, overwritten}
 use Rattle.venice_isa.specs.Region.{place_in}
 use Rattle.venice_isa.specs.Footprint.{Reads, Writes, cells_of, memory_of}
-use Rattle.venice_isa.specs.Beat.{Progress, beats_of_row, beats_of, transfer_beats}
-use Rattle.venice_isa.proofs.Regions.{item_fits}
+use Rattle.venice_isa.specs.Beat.{Progress, beats_of_row, transfer_beats}
 use Rattle.venice_isa.proofs.OneBeat.{group_end}
 use Rattle.venice_isa.proofs.Wholes.{part_length}
 use Rattle.venice_isa.proofs.Overwrites.{overwritten_length, overwritten_nothing}
@@ -21,10 +20,10 @@ use Rattle.dma_engine.specs.declared.direction.Direction.{Direction}
 use Rattle.dma_engine.specs.declared.direction.Direction.TheVariants.{IntoCells, IntoMemory}
 use Rattle.dma_engine.specs.declared.current.Current.{Current}
 use Rattle.dma_engine.specs.Direction.{issue_of, channel_course}
-use Rattle.dma_engine.specs.Current.{moved, done_of, job_of, beat_bytes_of, IsUnderWay, IsNext}
+use Rattle.dma_engine.specs.Current.{moved, done_of, job_of, beat_bytes_of, IsUnderWay}
 use Rattle.dma_engine.specs.Channel.{jobs_of, IsFront}
 use Rattle.dma_engine.specs.Rows.{row_left_of, bytes_of_beats, IsOn, BeatsToGo}
-use Rattle.dma_engine.proofs.Currents.{goes_on, has_beats, beat_moves, job_with, next_is, same_beats, column_below, cells_below, memory_below}
+use Rattle.dma_engine.proofs.Currents.{goes_on, beat_moves, job_with, next_is, same_beats, cells_below, memory_below}
 
 -- ---- two moves, one behind the other
 

@@ -1,7 +1,7 @@
 -- Several beats of the queue's first work: each brings it one nearer to where all bring it.
 use Rattle.std.proofs.Common.{◌≡◌, ℕ, zero, suc, ◌+◌, ◌*◌, ◌<◌, sym, refl, ap, ◌∙◌, subst, arith, List, [], ◌∷◌, ◌++◌, length}
 use Rattle.std.proofs.lemmas.List.Elements.{All-head, All-tail, All-cons}
-use Rattle.ven_base.specs.Store.{Store, store_size, IsInRange, cells_alone}
+use Rattle.ven_base.specs.Store.{Store, store_size, cells_alone}
 use Rattle.ven_base.specs.Job.{Job, HasBeatsLeft, IsReady, next_store, jobs_beaten}
 use Rattle.ven_base.specs.Beats.{jobs_after_beats, store_after_beats}
 use Rattle.ven_base.proofs.Jobs.{comes_on}

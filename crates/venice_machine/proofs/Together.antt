@@ -7,7 +7,7 @@ use Rattle.std.proofs.lemmas.Nat.{div-add-mod'}
 use Rattle.ven_base.specs.Store.{store_of, store_size}
 use Rattle.ven_base.specs.Job.{Job, Course, works_of as works_in, jobs_beaten}
 use Rattle.ven_base.specs.Beats.{HasMore}
-use Rattle.ven_base.specs.Exchange.{WorkKind, HasMoreIn, FirstsApart}
+use Rattle.ven_base.specs.Exchange.{HasMoreIn, FirstsApart}
 use Rattle.ven_base.proofs.Exchange.{has_fewer, size_kept}
 use Rattle.spad_store.specs.Tagged.{tagged_among}
 use Rattle.spad_store.proofs.Rounds.{Trio, CanRun, one_more_round, can_go_on}
@@ -30,8 +30,8 @@ use Rattle.venice_machine.specs.State.{Setup, State}
 use Rattle.venice_machine.specs.Step.{TheHost, TheUnit, can_step, after_step}
 use Rattle.venice_machine.specs.Run.{all_units, in_order, after_turn, after_turns, after_cycle, after_cycles}
 use Rattle.venice_machine.specs.Machine.{Queues, MachineContents, Shows}
-use Rattle.venice_machine.specs.Kept.{AllNumbered, AllLieIn, unit_course, waiting_in, tagged_in, after_chance}
-use Rattle.venice_machine.specs.AtOnce.{WorksAndStore, lanes_on, reads_on, writes_on, all_on, busy_units, works_of, with_works, after_many, FirstsAgree, AllAgree, HaveMore, HostWaits, MayMakeMany, CyclesAtOnce}
+use Rattle.venice_machine.specs.Kept.{AllNumbered, unit_course, waiting_in, tagged_in, after_chance}
+use Rattle.venice_machine.specs.AtOnce.{WorksAndStore, lanes_on, reads_on, all_on, busy_units, works_of, with_works, after_many, FirstsAgree, HaveMore, HostWaits, CyclesAtOnce}
 use Rattle.venice_machine.proofs.Shown.{host_may}
 use Rattle.venice_machine.proofs.Cycling.{turn_idle, cycle_shown}
 use Rattle.venice_machine.proofs.Beaten.{unit_kind, unit_keeps, more_of, same_length, tagged_stay, plus_none, lanes_turn_shown, reads_turn_shown, writes_turn_shown}

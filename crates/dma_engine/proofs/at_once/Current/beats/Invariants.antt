@@ -1,4 +1,3 @@
-use Rattle.std.proofs.Common.{◌≡◌}
 use Rattle.ven_base.specs.Store.{store_of}
 use Rattle.dma_engine.specs.Rows.{BeatsToGo}
 use Rattle.dma_engine.proofs.at_once.Current.beats.Given as goal

@@ -1,4 +1,4 @@
-use Rattle.std.proofs.Common.{◌∙◌, ap, sym, subst, map, Some}
+use Rattle.std.proofs.Common.{◌∙◌, ap, sym, subst, map}
 use Rattle.std.specs.Prelude.{All}
 use Rattle.std.proofs.lemmas.List.Elements.{All-head}
 use Rattle.ven_base.specs.Store.{store_of, store_size, IsInRange}

@@ -1,4 +1,4 @@
-use Rattle.std.proofs.Common.{◌≡◌, ◌∙◌, ◌+◌, ◌*◌, ◌<◌, ◌≤◌, ap, sym, subst, arith, replicate}
+use Rattle.std.proofs.Common.{◌≡◌, ◌∙◌, ◌+◌, ◌*◌, ◌<◌, ap, sym, subst, arith, replicate}
 use Rattle.ven_base.specs.Store.{Store, store_of}
 use Rattle.venice_machine.specs.State.{State}
 use Rattle.venice_machine.specs.Run.{all_units, after_cycles}

@@ -1,4 +1,4 @@
-use Rattle.std.proofs.Common.{◌≡◌, ◌∙◌, ◌+◌, ◌-◌, ◌*◌, ◌/◌, ◌<◌, ◌≤◌, ap, sym, subst, arith}
+use Rattle.std.proofs.Common.{◌∙◌, ◌+◌, ◌-◌, ◌*◌, ◌/◌, ◌<◌, ◌≤◌, ap, sym, subst, arith}
 use Rattle.venice_isa.specs.Host.{deed}
 use Rattle.venice_isa.specs.HostState.{host_of}
 use Rattle.host_core.specs.Pass.{lets_go_on}

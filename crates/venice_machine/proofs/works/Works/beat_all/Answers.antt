@@ -1,4 +1,4 @@
-use Rattle.std.proofs.Common.{◌≡◌, ◌∙◌, ap, sym, subst, ℕ, List}
+use Rattle.std.proofs.Common.{◌∙◌, ap, sym, subst, ℕ, List}
 use Rattle.ven_base.specs.Store.{store_of, store_size}
 use Rattle.ven_base.specs.Job.{Job}
 use Rattle.ven_base.specs.Beats.{jobs_after_beats, store_after_beats}
