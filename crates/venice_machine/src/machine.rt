@@ -270,17 +270,17 @@ impl Machine {
     #[inline(always)]
     fn spare_cycles(&self, most: u64) -> u64
         requires going { self.now.end ≡ None }
-        ensures some_lanes { 0 < self.now.setup.lane_count }
+        ensures some_lanes { 0 < result → 0 < self.now.setup.lane_count }
         ensures busy { 0 < result → 0 < busy_units self.now.queues }
         ensures may { 0 < result → MayMakeMany most result self.now }
     {
         let busy = self.works.busy();
-        let count = self.works.spare();
         if busy == 0 || most <= self.steps || !self.host.waits(&self.code, self.waiting()) {
             return 0;
         }
         let room = (most - self.steps - 1) / busy;
-        let count = count.min(room);
+        let spare = self.works.spare();
+        let count = spare.min(room);
         if count < LEAST_AT_ONCE || !self.works.all_agree() {
             return 0;
         }
