@@ -119,11 +119,11 @@ overlap in memory, and a write of such rows, each over the one before.
   > halt
   > END
   $ venice asm self.asm self.image
-  $ venice exec self.image x.arrays 1 512 1000 | cut -c 1-72
+  $ venice exec self.image x.arrays 1 512 1000 | cut -c 1-71
   y u8[1,128]
   1 2 3 2 3 4 3 4 5 4 5 6 5 6 7 6 7 8 7 8 9 8 9 10 9 10 11 12 13 14 15 16
   z u8[1,128]
-  1 2 3 4 5 6 7 8 9 10 11 12 13 14 15 16 17 18 19 20 4 5 6 7 8 9 10 11 12 
+  1 2 3 4 5 6 7 8 9 10 11 12 13 14 15 16 17 18 19 20 4 5 6 7 8 9 10 11 12
   steps 140
   cycles 105
   $ for lanes in 1 4; do for budget in $(seq 20 2 140) 1000; do same self $lanes $budget; done; done

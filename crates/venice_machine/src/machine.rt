@@ -6,7 +6,7 @@ ghost use Rattle.venice_isa.specs.Tests.{has_counts, is_in_range};
 ghost use Rattle.ven_base.specs.Store.{store_of, store_size};
 ghost use Rattle.venice_isa.specs.Host.{deed};
 ghost use Rattle.venice_isa.specs.HostState.{host_of};
-ghost use Rattle.host_core.specs.Step.{wanted_by};
+ghost use Rattle.host_core.specs.Step.{moves, wanted_by};
 ghost use Rattle.venice_isa.specs.Units.{is_work, overtakes, Lanes, ReadChannel, WriteChannel};
 ghost use Rattle.ven_base.specs.Limits.{cell_limit};
 ghost use Rattle.array_file.specs.Fitting.{Fits};
@@ -427,7 +427,7 @@ impl Machine {
         if !self.may_turn(grant, 0) {
             return 0;
         }
-        if self.host_turn(most) { HOST } else { 0 }
+        if self.host_chance(most) { HOST } else { 0 }
     }
 
     #[inline(always)]
@@ -502,6 +502,45 @@ impl Machine {
         }
     }
 
+    /// The host's turn: an instruction that concerns it alone waits for nothing.
+    #[inline(always)]
+    fn host_chance(&mut self, most: u64) -> bool
+        requires going { self.old.end ≡ None }
+        requires steps { self.old.steps < most }
+        requires limit { most ≤ step_limit }
+        ensures room { HasRoom most self.new }
+        ensures cycles { self.new.cycles ≡ self.old.cycles }
+        ensures setup { self.new.setup ≡ self.old.setup }
+        ensures state { (state : State) → Shows self.old state →
+            Shows self.new (after_chance self.old.setup most false TheHost state) }
+        ensures answer { result ≡ not (self.new.steps == self.old.steps) }
+    {
+        if self.host.moves(&self.code) {
+            self.host_move(most);
+            return true;
+        }
+        self.host_turn(most)
+    }
+
+    /// Does such an instruction.
+    #[inline(always)]
+    fn host_move(&mut self, most: u64)
+        requires moves { IsTrue (moves (deed self.old.setup.code.instrs (host_of self.old.host))) }
+        requires going { self.old.end ≡ None }
+        requires steps { self.old.steps < most }
+        requires limit { most ≤ step_limit }
+        ensures room { HasRoom most self.new }
+        ensures cycles { self.new.cycles ≡ self.old.cycles }
+        ensures setup { self.new.setup ≡ self.old.setup }
+        ensures steps { self.new.steps ≡ self.old.steps + 1 }
+        ensures state { (state : State) → Shows self.old state →
+            Shows self.new (after_chance self.old.setup most false TheHost state) }
+    {
+        self.host.move_on(&self.code);
+        self.count(most);
+    }
+
+    /// The turn of any instruction.
     #[inline(always)]
     fn host_turn(&mut self, most: u64) -> bool
         requires going { self.old.end ≡ None }
