@@ -178,10 +178,8 @@ impl Unit for Lanes {
     }
 
     fn spare(&self) -> u64 {
-        match (self.queue.front(), &self.current) {
-            (Some(work), Some(current)) => work.beats(self.lanes) - current.done - 1,
-            _ => u64::MAX,
-        }
+        let left = self.first_beats();
+        if left == 0 { u64::MAX } else { left - 1 }
     }
 
     fn beats(&mut self, count: u64, cells: &mut Spad, _memory: &mut MainMem) {

@@ -1,7 +1,7 @@
 use Rattle.std.proofs.Common.{arith}
 use Rattle.ven_base.specs.Store.{store_of}
 use Rattle.dma_engine.proofs.Rows.{goes_on_to_go}
-use Rattle.dma_engine.proofs.at_once.Current.beats.Goals as goal
+use Rattle.dma_engine.proofs.current.Current.beats.Goals as goal
 
 pub loop-left-preserved : goal.loop-left-preserved
 loop-left-preserved g c =

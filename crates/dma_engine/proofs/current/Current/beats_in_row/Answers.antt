@@ -5,7 +5,7 @@ use Rattle.venice_isa.specs.Footprint.{cells_of, memory_of}
 use Rattle.dma_engine.specs.Current.{moved}
 use Rattle.dma_engine.proofs.Currents.{cell_small, place_small}
 use Rattle.dma_engine.proofs.Rows.{row_fits, row_moves}
-use Rattle.dma_engine.proofs.at_once.Current.beats_in_row.Goals as goal
+use Rattle.dma_engine.proofs.current.Current.beats_in_row.Goals as goal
 
 pub cell-requires : goal.cell-requires
 cell-requires g c =
