@@ -1,4 +1,4 @@
-use Rattle.std.proofs.Common.{◌+◌, ◌*◌, ◌/◌, ◌∙◌, ap}
+use Rattle.std.proofs.Common.{◌+◌, ◌*◌, ◌∙◌, ap}
 use Rattle.venice_isa.specs.Beat.{beats_of_row}
 use Rattle.dma_engine.specs.Current.{done_of}
 use Rattle.dma_engine.proofs.current.Current.done.Goals as goal

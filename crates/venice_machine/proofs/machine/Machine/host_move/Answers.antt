@@ -1,4 +1,4 @@
-use Rattle.std.proofs.Common.{◌≡◌, ap, sym, subst, false, true}
+use Rattle.std.proofs.Common.{◌≡◌, sym, subst, false, true}
 use Rattle.venice_isa.specs.Host.{deed}
 use Rattle.venice_isa.specs.HostState.{host_of}
 use Rattle.host_core.specs.Step.{moves}
