@@ -1,5 +1,7 @@
 -- Several beats of the queue's first work: each brings it one nearer to where all bring it.
-use Rattle.std.proofs.Common.{◌≡◌, ℕ, zero, suc, ◌+◌, ◌*◌, ◌<◌, sym, refl, ap, ◌∙◌, subst, arith, List, [], ◌∷◌, ◌++◌, length}
+use Rattle.std.proofs.Common.{◌≡◌, ℕ, zero, suc, ◌+◌, ◌*◌, ◌<◌, sym, refl, ap, ◌∙◌, subst, arith, List, [], ◌∷◌, ◌++◌, length, None}
+use Rattle.std.specs.Prelude.{slice_get, Option}
+use Rattle.std.proofs.lemmas.Option.{none-some}
 use Rattle.std.proofs.lemmas.List.Elements.{All-head, All-tail, All-cons}
 use Rattle.ven_base.specs.Store.{Store, store_size, cells_alone}
 use Rattle.ven_base.specs.Job.{Job, HasBeatsLeft, IsReady, next_store, jobs_beaten}
@@ -15,6 +17,7 @@ use Rattle.venice_isa.proofs.Ranges.{in_any_memory}
 use Rattle.lane_machine.specs.declared.current.Current.{Current}
 use Rattle.lane_machine.specs.Current.{progress_of, IsUnderWay}
 use Rattle.lane_machine.specs.State.{lane_course}
+use Rattle.lane_machine.specs.Lanes.{jobs_of}
 use Rattle.lane_machine.specs.Laws.{next_beat_keeps}
 use Rattle.lane_machine.specs.ToGo.{job_at, BeatsToGo}
 
@@ -54,6 +57,10 @@ inside_of work cells store inside same =
     subst (λ n. HasFootprint (record { cells = n; memory = length store.memory }) (Vector work)) (sym same) (in_any_memory work (cells_alone cells) inside (length store.memory))
 
 -- ---- the queue
+
+pub no_first : (lanes : ℕ) (works : List VecWork) (current : Option Current) → slice_get works 0 ≡ None → jobs_of lanes works current ≡ []
+no_first lanes [] current none = refl
+no_first lanes (work ∷ works) current none = absurd (none-some work (sym none))
 
 -- of an empty queue nothing changes
 none_on : (lanes count : ℕ) (store : Store) → (jobs_after_beats (lane_course lanes) count [] store ≡ []) × (store_after_beats (lane_course lanes) count [] store ≡ store)

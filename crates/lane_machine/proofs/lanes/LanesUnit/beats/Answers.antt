@@ -10,7 +10,7 @@ use Rattle.venice_isa.specs.Whole.{HasCounts}
 use Rattle.lane_machine.specs.State.{State, lane_course}
 use Rattle.lane_machine.specs.Lanes.{jobs_of}
 use Rattle.lane_machine.proofs.Kept.{inside_of_cells, of_first, first_under_way, jobs_first, at_front}
-use Rattle.lane_machine.proofs.ToGo.{queue_on}
+use Rattle.lane_machine.proofs.ToGo.{no_first, nothing_on, queue_on}
 use Rattle.lane_machine.proofs.lanes.LanesUnit.beats.Goals as goal
 
 pub beats-requires-clause-under_way : goal.beats-requires-clause-under_way
@@ -35,8 +35,8 @@ beats-requires-clause-more c =
     let mine = ap (jobs_of lanes items) c.in-Some-current.is ∙ jobs_first lanes items c.in-Some.work.now (Some c.in-Some-current.current) (sym c.in-Some.ensures) in
     subst (HasMore (lane_course lanes) c.args.count) mine (subst (λ (s : State). HasMore (lane_course s.lanes) c.args.count s.jobs) (sym c.self.view_is) c.requires.more)
 
-pub invariant_of-self : goal.invariant_of-self
-invariant_of-self c =
+pub invariant_of-self-2 : goal.invariant_of-self-2
+invariant_of-self-2 c =
     let lanes = c.self.inside.lanes in
     let items = c.self.inside.queue.items in
     let work = c.in-Some.work.now in
@@ -82,3 +82,17 @@ returns-clause-jobs c =
     jobs_first lanes items work (Some c.beats.new.current) first ∙ come.jobs_are rest
     ∙ ap (λ jobs. jobs_after_beats (lane_course lanes) c.args.count jobs store) (sym mine)
     ∙ ap (λ (s : State). jobs_after_beats (lane_course s.lanes) c.args.count s.jobs store) c.self.view_is
+
+pub returns-in_default-clause-store : goal.returns-in_default-clause-store
+returns-in_default-clause-store c =
+    let inside = c.self.inside in
+    let self = c.args.self.now in
+    let empty = sym (ap (λ (s : State). s.jobs) c.self.view_is) ∙ no_first inside.lanes inside.queue.items inside.current (sym c.in_default.ensures) in
+    (nothing_on self.lanes c.args.count self.jobs (store_of c.args.cells.now c.args._memory.now) empty).1
+
+pub returns-in_default-clause-jobs : goal.returns-in_default-clause-jobs
+returns-in_default-clause-jobs c =
+    let inside = c.self.inside in
+    let self = c.args.self.now in
+    let empty = sym (ap (λ (s : State). s.jobs) c.self.view_is) ∙ no_first inside.lanes inside.queue.items inside.current (sym c.in_default.ensures) in
+    (nothing_on self.lanes c.args.count self.jobs (store_of c.args.cells.now c.args._memory.now) empty).0
