@@ -293,3 +293,7 @@ steps_fit most steps busy count more few =
   where
     mul-mono : (a b c : ℕ) → a ≤ b → a * c ≤ b * c
     mul-mono a b c le = let sum : b ≡ a + (b - a) = omega (arith, le) in omega (arith, ap (λ n. n * c) sum)
+
+-- each cycle makes a step at least
+pub steps_at_least : (count busy : ℕ) → 0 < busy → count ≤ count * busy
+steps_at_least count busy some = let one : busy ≡ 1 + (busy - 1) = omega (arith, some) in omega (arith, ap (λ n. count * n) one)
