@@ -1,16 +1,91 @@
-The examples: additions, each with the least scratchpad that it runs in.
+The examples: array programs, each compiled and run in the scratchpad of its need and in 4,096 bytes, on one lane and on four. Where
+the machine left what the program means, a line has its bytes of scratchpad and lanes with the steps and cycles.
 
   $ venice() { "$TESTDIR/../../venice" "$@"; }
   $ cd "$TESTDIR/../../examples"
-  $ venice run add.ven add.arrays add.image 4 28
+  $ venice run add.ven add.arrays "$CRAMTMP/add.image" 4 7
   y u8[1,4]
   5 7 9 4
-  $ venice run wrap.ven wrap.arrays wrap.image 4 42
-  less u8[1,6]
-  255 0 1 127 199 254
-  $ venice run brighten.ven brighten.arrays brighten.image 4 112
-  brighter_pixels u8[1,16]
-  20 28 36 44 52 60 68 76 84 92 100 108 116 124 132 140
+  steps 712
+  cycles 696
+  $ compared() {
+  >   venice run $1.ven $1.arrays "$CRAMTMP/$1.image" $2 $3 > "$CRAMTMP/said"
+  >   sed '/^steps /,$d' "$CRAMTMP/said" > "$CRAMTMP/outputs"
+  >   venice eval $1.ven $1.arrays | cmp - "$CRAMTMP/outputs" && echo $1 $3 $2 $(tail -n 2 "$CRAMTMP/said")
+  > }
+  $ for program in *.ven; do
+  >   for spad in $(venice check $program 4096 | sed -n 's/^need //p') 4096; do
+  >     for lanes in 1 4; do compared ${program%.ven} $lanes $spad; done
+  >   done
+  > done
+  add 7 1 steps 712 cycles 696
+  add 7 4 steps 712 cycles 696
+  add 4096 1 steps 173 cycles 169
+  add 4096 4 steps 173 cycles 169
+  bins 36 1 steps 198193 cycles 196213
+  bins 36 4 steps 198190 cycles 196210
+  bins 4096 1 steps 6131 cycles 5633
+  bins 4096 4 steps 5755 cycles 5293
+  blend 12 1 steps 9478 cycles 9226
+  blend 12 4 steps 9478 cycles 9226
+  blend 4096 1 steps 706 cycles 660
+  blend 4096 4 steps 676 cycles 648
+  blur 20 1 steps 22647 cycles 22122
+  blur 20 4 steps 22647 cycles 22122
+  blur 4096 1 steps 1294 cycles 1165
+  blur 4096 4 steps 1191 cycles 1116
+  brighten 7 1 steps 2788 cycles 2724
+  brighten 7 4 steps 2788 cycles 2724
+  brighten 4096 1 steps 176 cycles 172
+  brighten 4096 4 steps 173 cycles 169
+  dot 36 1 steps 1489 cycles 1450
+  dot 36 4 steps 1489 cycles 1450
+  dot 4096 1 steps 389 cycles 370
+  dot 4096 4 steps 377 cycles 366
+  edges 20 1 steps 10603 cycles 10303
+  edges 20 4 steps 10603 cycles 10303
+  edges 4096 1 steps 818 cycles 722
+  edges 4096 4 steps 746 cycles 704
+  fir 20 1 steps 3550 cycles 3470
+  fir 20 4 steps 3550 cycles 3470
+  fir 4096 1 steps 433 cycles 408
+  fir 4096 4 steps 421 cycles 405
+  histogram 28 1 steps 9181 cycles 8939
+  histogram 28 4 steps 9181 cycles 8939
+  histogram 4096 1 steps 1162 cycles 1124
+  histogram 4096 4 steps 1108 cycles 1085
+  light 5 1 steps 4270 cycles 4180
+  light 5 4 steps 4270 cycles 4180
+  light 4096 1 steps 526 cycles 517
+  light 4096 4 steps 520 cycles 511
+  matvec 32 1 steps 4163 cycles 4103
+  matvec 32 4 steps 4163 cycles 4103
+  matvec 4096 1 steps 650 cycles 639
+  matvec 4096 4 steps 638 cycles 627
+  median 14 1 steps 58319 cycles 56799
+  median 14 4 steps 58319 cycles 56799
+  median 4096 1 steps 3202 cycles 2965
+  median 4096 4 steps 3062 cycles 2911
+  mirror 12 1 steps 32707 cycles 31915
+  mirror 12 4 steps 32707 cycles 31915
+  mirror 4096 1 steps 2263 cycles 2121
+  mirror 4096 4 steps 2199 cycles 2097
+  product 80 1 steps 12070 cycles 11942
+  product 80 4 steps 12058 cycles 11930
+  product 4096 1 steps 4304 cycles 4197
+  product 4096 4 steps 4264 cycles 4181
+  sobel 24 1 steps 58717 cycles 57397
+  sobel 24 4 steps 58717 cycles 57397
+  sobel 4096 1 steps 2239 cycles 1990
+  sobel 4096 4 steps 1975 cycles 1803
+  threshold 12 1 steps 7504 cycles 7372
+  threshold 12 4 steps 7504 cycles 7372
+  threshold 4096 1 steps 1296 cycles 1264
+  threshold 4096 4 steps 1283 cycles 1258
+  wrap 7 1 steps 1058 cycles 1034
+  wrap 7 4 steps 1058 cycles 1034
+  wrap 4096 1 steps 174 cycles 170
+  wrap 4096 4 steps 173 cycles 169
 
 Assembler programs.
 
@@ -71,7 +146,7 @@ Assembler programs.
   steps 12
   cycles 18
 
-Programs of the whole language.
+What some of them mean.
 
   $ venice eval blur.ven blur.arrays
   y u8[5,6]

@@ -10,6 +10,9 @@ that failed, as any other.
   $ venice run add.ven no.arrays add.image 4 28
   error: file
   [8]
+  $ venice run add.ven add.arrays add.image 4 28 no.grants
+  error: file
+  [8]
   $ venice run '' add.arrays add.image 4 28
   error: file
   [8]
@@ -23,12 +26,18 @@ A folder is no file.
   $ venice run add.ven folder add.image 4 28
   error: file
   [8]
+  $ venice run add.ven add.arrays add.image 4 28 folder
+  error: file
+  [8]
   $ venice run add.ven/ add.arrays add.image 4 28
   error: file
   [8]
 
 The other commands.
 
+  $ venice build folder add.image 28
+  error: file
+  [8]
   $ venice eval no.ven add.arrays
   error: file
   [8]
@@ -53,7 +62,7 @@ The other commands.
 
 A device that gives its bytes piece by piece is read as a file is, up to the limit of a text and one byte more.
 
-  $ cat add.arrays | venice run add.ven /dev/stdin add.image 4 28
+  $ cat add.arrays | venice eval add.ven /dev/stdin
   y u8[1,2]
   4 6
   $ venice run /dev/zero add.arrays add.image 4 28
@@ -63,14 +72,14 @@ A device that gives its bytes piece by piece is read as a file is, up to the lim
   error: program no output
   [3]
 
-No file is written.
+Of all these calls none has written a file.
 
   $ ls
   add.arrays
   add.ven
   folder
 
-A file that can't be saved: status 14. Only `asm` saves, and only under its last word.
+A file that can't be saved: status 14. `asm`, `build` and `run` save, each under its word IMAGE alone, and print nothing else then.
 
   $ printf 'spad 16\nmemory 0\nhalt\n' > halt.asm
   $ venice asm halt.asm folder
@@ -79,17 +88,64 @@ A file that can't be saved: status 14. Only `asm` saves, and only under its last
   $ venice asm halt.asm ''
   error: save
   [14]
-  $ venice asm halt.asm halt.image
-  $ venice disasm halt.image | cmp - halt.asm
-  $ venice exec halt.image /dev/null 1 16 1
-  steps 1
-  cycles 1
+  $ venice build add.ven folder 28
+  error: save
+  [14]
+  $ venice build add.ven '' 28
+  error: save
+  [14]
+  $ venice run add.ven add.arrays folder 4 28
+  error: save
+  [14]
+  $ venice run add.ven add.arrays no/such/folder 4 28
+  error: save
+  [14]
+  $ venice run add.ven add.arrays /dev/full 4 28
+  error: save
+  [14]
   $ ls
   add.arrays
   add.ven
   folder
   halt.asm
+  $ venice asm halt.asm halt.image
+  $ venice disasm halt.image | cmp - halt.asm
+  $ venice exec halt.image /dev/null 1 16 1
+  steps 1
+  cycles 1
+  $ venice build add.ven add.image 28
+  $ venice run add.ven add.arrays run.image 4 28 | head -n 2
+  y u8[1,2]
+  4 6
+  $ cmp run.image add.image
+  $ ls
+  add.arrays
+  add.image
+  add.ven
+  folder
+  halt.asm
   halt.image
+  run.image
+
+An older file of that name is lost, whatever it was.
+
+  $ seq 100000 > run.image
+  $ venice run add.ven add.arrays run.image 4 28 | head -n 2
+  y u8[1,2]
+  4 6
+  $ cmp run.image add.image
+
+A word at a file's place is a file's name, whatever it begins with.
+
+  $ cp add.ven -- --help
+  $ cp add.arrays 'two words'
+  $ venice run --help 'two words' -- 4 28 --
+  error: file
+  [8]
+  $ venice run --help 'two words' -- 4 28 | head -n 2
+  y u8[1,2]
+  4 6
+  $ cmp add.image ./--
 
 Streams are files: standard input, a pipe, and for what is saved standard output. A stream has its bytes once.
 
@@ -100,7 +156,7 @@ Streams are files: standard input, a pipe, and for what is saved standard output
   2 3
   $ mkfifo pipe
   $ cat one.arrays > pipe &
-  $ venice eval one.ven pipe
+  $ venice run one.ven pipe one.image 4 28 | head -n 2
   y u8[1,2]
   2 3
   $ cat one.ven | venice eval /dev/stdin /dev/stdin
@@ -111,6 +167,10 @@ Streams are files: standard input, a pipe, and for what is saved standard output
   spad 1
   memory 0
   halt
+  $ venice build one.ven /dev/stdout 28 | cmp - one.image
+  $ printf 01040f0f | venice run one.ven one.arrays /dev/null 4 28 /dev/stdin | head -n 2
+  y u8[1,2]
+  2 3
 
 An image may be saved over its text.
 
@@ -120,3 +180,6 @@ An image may be saved over its text.
   $ venice asm over.asm over.asm
   error: text unexpected at 0
   [6]
+  $ cp one.ven over.ven
+  $ venice build over.ven over.ven 28
+  $ cmp over.ven one.image

@@ -2,7 +2,14 @@ Inputs that aren't an array file, or don't fit the program, are refused by `run`
 
   $ venice() { "$TESTDIR/../../venice" "$@"; }
   $ echo 'input a u8[1,2]; input b u8[1,2]; output y = a + b;' > add.ven
-  $ try() { echo "$1" > try.arrays; venice run add.ven try.arrays add.image 4 28; }
+  $ try() {
+  >   echo "$1" > try.arrays
+  >   venice run add.ven try.arrays add.image 4 28 > said; local status=$?
+  >   sed '/^steps /,$d' said
+  >   venice eval add.ven try.arrays > meaning; [ $? = $status ] || echo "eval ends with another status"
+  >   sed '/^steps /,$d' said | cmp - meaning
+  >   return $status
+  > }
   $ try 'a u8[1,2] 1 2 b u8[1,2] 3 4'
   y u8[1,2]
   4 6
@@ -62,6 +69,6 @@ An array file may be longer than a program.
 
   $ printf 'a u8[1,2] 1 2 b u8[1,2] 3 4#' > long.arrays
   $ head -c 1000000 /dev/zero | tr '\0' x >> long.arrays
-  $ venice run add.ven long.arrays add.image 4 28
+  $ venice run add.ven long.arrays add.image 4 28 | head -n 2
   y u8[1,2]
   4 6

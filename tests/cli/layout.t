@@ -23,7 +23,7 @@ Comments: from `#` up to the line end, or to the end of the text.
   > # 9
   > 60
   > END
-  $ venice run comments.ven comments.arrays add.image 4 21
+  $ venice eval comments.ven comments.arrays
   y u8[1,3]
   41 52 63
 
@@ -31,18 +31,18 @@ Blanks are space, tab and carriage return. Where two tokens can't be read as one
 
   $ printf 'input\ta\tu8[1,3];\r\n\r\n  input b u8 [ 1 ,\t3 ] ;\routput y=a+b;' > blanks.ven
   $ printf '\r\n\ta\tu8[1,3]\r\n1\t2\t3\r\nb u8[\r1,3]40 50 60' > blanks.arrays
-  $ venice run blanks.ven blanks.arrays add.image 4 21
+  $ venice eval blanks.ven blanks.arrays
   y u8[1,3]
   41 52 63
 
 Another byte is no blank: a form feed begins no token, but may stand in a comment.
 
   $ printf 'input a u8[1,3];\f input b u8[1,3]; output y = a + b;' > feed.ven
-  $ venice run feed.ven add.arrays add.image 4 21
+  $ venice eval feed.ven add.arrays
   error: program unexpected at 16
   [3]
   $ printf 'input a u8[1,3]; # \f\ninput b u8[1,3]; output y = a + b;' > feed.ven
-  $ venice run feed.ven add.arrays add.image 4 21
+  $ venice eval feed.ven add.arrays
   y u8[1,3]
   41 52 63
 
@@ -50,7 +50,7 @@ A number is any number token of its value.
 
   $ echo 'input a u8[0x1,0x0003]; input b u8[01,3]; output y = a + b;' > numbers.ven
   $ echo 'a u8[1,0x3] 0x1 0x02 003 b u8[0x01,3] 0x28 0x32 0x3C' > numbers.arrays
-  $ venice run numbers.ven numbers.arrays add.image 4 21
+  $ venice eval numbers.ven numbers.arrays
   y u8[1,3]
   41 52 63
 
@@ -58,11 +58,11 @@ The longest token is read: `0xg` is the number 0 and the name `xg`, and `0X1` th
 
   $ echo 'input a u8[1,1]; input xg u8[1,1]; output y = a + xg;' > longest.ven
   $ echo 'a u8[1,1]0xg u8[1,1]7' > longest.arrays
-  $ venice run longest.ven longest.arrays add.image 4 7
+  $ venice eval longest.ven longest.arrays
   y u8[1,1]
   7
   $ echo 'input a u8[1,1]; input X1 u8[1,1]; output y = a + X1;' > longest.ven
   $ echo 'a u8[1,1]0X1 u8[1,1]8' > longest.arrays
-  $ venice run longest.ven longest.arrays add.image 4 7
+  $ venice eval longest.ven longest.arrays
   y u8[1,1]
   8

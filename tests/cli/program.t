@@ -1,40 +1,36 @@
-`run` can do programs of one form yet, the sum of two arrays of bytes in one row; it refuses other accepted programs with status 3.
+`run` and `build` take each program that `eval` and `check` take, and refuse any other by the same line, with status 3.
 
   $ venice() { "$TESTDIR/../../venice" "$@"; }
   $ echo 'a u8[1,2] 1 2 b u8[1,2] 3 4' > add.arrays
-  $ try() { echo "$1" > try.ven; venice run try.ven add.arrays add.image 4 28; }
+  $ try() {
+  >   echo "$1" > try.ven
+  >   venice run try.ven add.arrays add.image 4 28 > said; local status=$?
+  >   sed '/^steps /,$d' said
+  >   venice eval try.ven add.arrays > meaning; [ $? = $status ] || echo "eval ends with another status"
+  >   sed '/^steps /,$d' said | cmp - meaning
+  >   venice build try.ven build.image 28 > built; [ $? = $status ] || echo "build ends with another status"
+  >   if [ $status = 0 ]; then cmp add.image build.image; else cmp built said; fi
+  >   return $status
+  > }
   $ try 'input a u8[1,2]; input b u8[1,2]; output y = a + b;'
   y u8[1,2]
   4 6
-  $ try 'input a u8[1,2]; input b u8[1,2]; output y = (a + b);'
+  $ try 'input a u8[1,2]; input b u8[1,2]; output y = (a - b);'
   y u8[1,2]
-  4 6
+  254 254
+  $ try 'input b u8[1,2]; input a u8[1,2]; output y = b << a; output z = a == b;'
+  y u8[1,2]
+  6 16
+  z u8[1,2]
+  0 0
+  $ try 'input a u8[1,2]; let c = transpose(a); input b u8[1,2]; output y = rowsum(c); output z = i16(b) - 5;'
+  y u8[2,1]
+  1
+  2
+  z i16[1,2]
+  -2 -1
 
-Another operation, another order of the operands, another type, more rows or columns, and more than the three statements.
-
-  $ try 'input a u8[1,2]; input b u8[1,2]; output y = a - b;'
-  error: program form
-  [3]
-  $ try 'input a u8[1,2]; input b u8[1,2]; output y = b + a;'
-  error: program form
-  [3]
-  $ try 'input a u8[1,2]; input b u8[1,2]; output y = a + a;'
-  error: program form
-  [3]
-  $ try 'input a u16[1,2]; input b u16[1,2]; output y = a + b;'
-  error: program form
-  [3]
-  $ try 'input a u8[2,2]; input b u8[2,2]; output y = a + b;'
-  error: program form
-  [3]
-  $ try 'input a u8[1,2049]; input b u8[1,2049]; output y = a + b;'
-  error: program form
-  [3]
-  $ try 'input a u8[1,2]; input b u8[1,2]; let y = a + b; output z = a + b;'
-  error: program form
-  [3]
-
-A program that isn't accepted is refused before its form is looked at.
+A text that is no program, and rules that a program breaks.
 
   $ try 'input a u8[1,2]; input b u8[1,2]; output y = a + b;;'
   error: program unexpected at 51
@@ -44,6 +40,15 @@ A program that isn't accepted is refused before its form is looked at.
   [3]
   $ try ''
   error: program no output
+  [3]
+  $ try 'input a u8[1,2];'
+  error: program no output
+  [3]
+  $ try 'input a u8[1,2]; input b u16[1,2]; output y = a + b;'
+  error: program type mismatch at 48
+  [3]
+  $ try 'input a u8[1024,1024]; output v = a + a; output w = a + a; output x = a + a; output y = a + a; output z = a + a + 1;'
+  error: program too much work 17825792
   [3]
 
 A reserved word is no name, and a name has at most 31 bytes.
@@ -71,12 +76,15 @@ A program has at most 65,536 bytes, its comments among them.
   $ head -c $((65536 - $(wc -c < long.ven))) /dev/zero | tr '\0' x >> long.ven
   $ wc -c < long.ven
   65536
-  $ venice run long.ven add.arrays add.image 4 28
+  $ venice run long.ven add.arrays add.image 4 28 | head -n 2
   y u8[1,2]
   4 6
   $ echo >> long.ven
   $ wc -c < long.ven
   65537
   $ venice run long.ven add.arrays add.image 4 28
+  error: program too long
+  [3]
+  $ venice build long.ven add.image 28
   error: program too long
   [3]

@@ -43,6 +43,60 @@ Steps and cycles of an image, or of an assembler text, over lanes and grants.
   host.grants      4    16      -       -  machine hazard pc 8 cycle 9
   late.grants      4    16     12      18
 
+Tiles, steps and cycles of a program on its inputs, by `run`; without a scratchpad in that of its need.
+
+  $ "$tools/sweep" sobel.ven sobel.arrays --lanes 1,4 --spad 10,24..400
+  lanes  spad  tiles  steps  cycles                     refusal
+      1    10      -      -       -  scratchpad need 24 have 10
+      1    24    168  58717   57397
+      1    48     84  30601   29917
+      1    96     42  15899   15391
+      1   192     21   8292    7908
+      1   384     11   5180    4809
+      4    10      -      -       -  scratchpad need 24 have 10
+      4    24    168  58717   57397
+      4    48     84  30589   29905
+      4    96     42  15679   15325
+      4   192     21   8028    7836
+      4   384     11   4916    4737
+  $ "$tools/sweep" sobel.ven sobel.arrays --csv
+  lanes,spad,tiles,steps,cycles
+  1,24,168,58717,57397
+  2,24,168,58717,57397
+  3,24,168,58717,57397
+  4,24,168,58717,57397
+  $ "$tools/sweep" add.ven add.arrays --lanes 4 --spad 7,28 --grants turns.grants,late_reads.grants
+             grants  lanes  spad  tiles  steps  cycles
+       turns.grants      4     7      4    712     768
+       turns.grants      4    28      1    173     241
+  late_reads.grants      4     7      4    712     696
+  late_reads.grants      4    28      1    173     169
+  $ ls *.image
+  ls: cannot access '*.image': No such file or directory
+  [2]
+
+How many beats each unit makes, and how many times as long as the busiest of them the run takes.
+
+  $ "$tools/sweep" double.asm serial.arrays --lanes 1,4 --beats
+  lanes  spad  steps  cycles  vec  read  write  ratio
+      1   512    281     206  128    32     32   1.61
+      4   512    185     110   32    32     32   3.44
+  $ "$tools/sweep" sobel.ven sobel.arrays --lanes 1,4 --spad 10,24,4096 --beats
+  lanes  spad  tiles  steps  cycles  vec  read  write  ratio                     refusal
+      1    10      -      -       -    -     -      -      -  scratchpad need 24 have 10
+      1    24    168  58717   57397  704   448    168  81.53
+      1  4096      4   2239    1990  376    59     21   5.29
+      4    10      -      -       -    -     -      -      -  scratchpad need 24 have 10
+      4    24    168  58717   57397  704   448    168  81.53
+      4  4096      4   1975    1803  112    59     21  16.10
+  $ "$tools/sweep" bins.ven bins.arrays --lanes 4 --spad 36,4096 --beats --csv
+  lanes,spad,tiles,steps,cycles,vec,read,write,ratio
+  4,36,404,198190,196210,-,-,-,-
+  4,4096,6,5755,5293,126,422,10,12.54
+  $ "$tools/sweep" sobel.ven --spad 24 --beats
+  sweep: --beats wants INPUTS, and runs that are made here
+  [2]
+
 A plot, which names each number that it shows.
 
   $ "$tools/sweep" double.asm serial.arrays --plot plot.svg > table
@@ -51,6 +105,12 @@ A plot, which names each number that it shows.
   <title>cycles: 2, 142
   <title>cycles: 3, 122
   <title>cycles: 4, 110
+  $ "$tools/sweep" add.ven add.arrays --lanes 1,2 --spad 7,28 --plot plot.svg > table
+  $ grep -o '<title>[^<]*' plot.svg
+  <title>1 lane: 7, 696
+  <title>1 lane: 28, 169
+  <title>2 lanes: 7, 696
+  <title>2 lanes: 28, 169
   $ python3 -c 'import sys, xml.dom.minidom; xml.dom.minidom.parse(sys.argv[1])' plot.svg
 
 Commands for other machines, and the table of what they left.
@@ -71,19 +131,33 @@ Commands for other machines, and the table of what they left.
       1   512    281     206
       4   512    185     110
 
+An array program is compiled there, and its images are left there, too.
+
+  $ "$tools/sweep" add.ven add.arrays --lanes 1,4 --spad 28 --jobs made > jobs
+  $ sed 's,[^ ]*venice ,venice ,' jobs
+  mkdir -p made; venice run add.ven add.arrays made/lanes=1,spad=28.image 1 28 > made/lanes=1,spad=28.answer; echo status $? >> made/lanes=1,spad=28.answer
+  mkdir -p made; venice run add.ven add.arrays made/lanes=4,spad=28.image 4 28 > made/lanes=4,spad=28.answer; echo status $? >> made/lanes=4,spad=28.answer
+  $ sh jobs
+  $ ls made
+  lanes=1,spad=28.answer
+  lanes=1,spad=28.image
+  lanes=4,spad=28.answer
+  lanes=4,spad=28.image
+  $ "$tools/sweep" add.ven add.arrays --lanes 1,4 --spad 28 --collect made
+  lanes  spad  tiles  steps  cycles
+      1    28      1    173     169
+      4    28      1    173     169
+
 Words that it can't take.
 
   $ "$tools/sweep" sobel.ven
-  sweep: the words are PROGRAM --spad LIST, or IMAGE INPUTS
+  sweep: the words are PROGRAM --spad LIST, PROGRAM INPUTS or IMAGE INPUTS
   [2]
   $ "$tools/sweep" sobel.ven --spad few
   sweep: `few` is no number, range (1-4) or doubling (64..4096)
   [2]
-  $ "$tools/sweep" sobel.ven sobel.arrays --spad 64
-  sweep: a PROGRAM stands alone; an IMAGE wants its INPUTS
-  [2]
   $ "$tools/sweep" double.asm --spad 512
-  sweep: a PROGRAM stands alone; an IMAGE wants its INPUTS
+  sweep: an IMAGE wants its INPUTS
   [2]
   $ "$tools/sweep" no.ven --spad 64
   sweep: no.ven: No such file or directory
@@ -163,6 +237,14 @@ Words that it can't take.
   grants: `host*` has a `*` without a number behind it
   grants: these are more than 1048576 cycles, the most of a grant list
   [2]
+  $ { "$tools/grants" 'all*1048576'; echo $? > status; } | head -n 1 | cut -c 1-11
+  0f 0f 0f 0f
+  $ cat status
+  9
+  $ "$tools/sweep" sobel.ven --spad 64 > /dev/full
+  [9]
+  $ "$tools/passes" sobel.ven 64 > /dev/full
+  [9]
   $ "$tools/grants" 'random:1*1048576' | "$TESTDIR/../../venice" exec race.image race.arrays 4 16 100 /dev/stdin
   error: machine hazard pc 8 cycle 21
   [7]

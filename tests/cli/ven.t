@@ -24,7 +24,8 @@ The commands, and the words of one.
     eval PROGRAM INPUTS                                       prints the outputs of the program, by the plain evaluator
     check PROGRAM SPAD                                        prints the outputs' shapes, the need, the passes with their tiles, and the bound
     explain PROGRAM                                           prints for each pass an order of evaluation, and how many results it holds
-    run PROGRAM INPUTS IMAGE LANES SPAD                       prints the sum of two arrays of one row
+    run PROGRAM INPUTS IMAGE LANES SPAD [GRANTS]              compiles a program, saves its image, runs it, and prints the outputs, the steps and the cycles
+    build PROGRAM IMAGE SPAD                                  compiles a program and saves its image; it prints nothing
     asm TEXT IMAGE                                            assembles a text and saves the image; it prints nothing
     disasm IMAGE                                              prints the canonical assembler text of an image
     exec IMAGE INPUTS LANES SPAD BUDGET [GRANTS]              runs an image, and prints its outputs, the steps and the cycles
@@ -46,7 +47,7 @@ The commands, and the words of one.
   usage: ven exec IMAGE INPUTS LANES SPAD BUDGET [GRANTS]
   It runs an image, and prints its outputs, the steps and the cycles.
   
-    IMAGE    the image, which `asm` makes of an assembler text
+    IMAGE    the image, which `build` makes of a program and `asm` of an assembler text
     INPUTS   the array file with the inputs
     LANES    the number of lanes, 1 to 4
     SPAD     the bytes of the scratchpad, 1 to 1048576
@@ -54,9 +55,21 @@ The commands, and the words of one.
     GRANTS   who may step in each cycle; without it all may (tools/grants writes such files)
   
   for example: ven exec add.image examples/add.arrays 4 12 100
+  $ ven help run
+  usage: ven run PROGRAM INPUTS IMAGE LANES SPAD [GRANTS]
+  It compiles a program, saves its image, runs it, and prints the outputs, the steps and the cycles.
+  
+    PROGRAM  the array program
+    INPUTS   the array file with the inputs
+    IMAGE    the file under which the image is saved
+    LANES    the number of lanes, 1 to 4
+    SPAD     the bytes of the scratchpad, 1 to 1048576
+    GRANTS   who may step in each cycle; without it all may (tools/grants writes such files)
+  
+  for example: ven run examples/blur.ven examples/blur.arrays blur.image 4 64
   $ ven help sort
   `sort` is no command
-  the commands are eval check explain run asm disasm exec
+  the commands are eval check explain run build asm disasm exec
   [2]
 
 Words that aren't a command's: which is wrong, and what it may be. Whether a number is, the program is asked.
@@ -67,7 +80,8 @@ Words that aren't a command's: which is wrong, and what it may be. Whether a num
     eval PROGRAM INPUTS                                       prints the outputs of the program, by the plain evaluator
     check PROGRAM SPAD                                        prints the outputs' shapes, the need, the passes with their tiles, and the bound
     explain PROGRAM                                           prints for each pass an order of evaluation, and how many results it holds
-    run PROGRAM INPUTS IMAGE LANES SPAD                       prints the sum of two arrays of one row
+    run PROGRAM INPUTS IMAGE LANES SPAD [GRANTS]              compiles a program, saves its image, runs it, and prints the outputs, the steps and the cycles
+    build PROGRAM IMAGE SPAD                                  compiles a program and saves its image; it prints nothing
     asm TEXT IMAGE                                            assembles a text and saves the image; it prints nothing
     disasm IMAGE                                              prints the canonical assembler text of an image
     exec IMAGE INPUTS LANES SPAD BUDGET [GRANTS]              runs an image, and prints its outputs, the steps and the cycles
@@ -89,7 +103,7 @@ Words that aren't a command's: which is wrong, and what it may be. Whether a num
   $ ven exce add.image add.arrays 4 12 100
   error: usage
   `exce` is no command; is `exec` meant?
-  the commands are eval check explain run asm disasm exec
+  the commands are eval check explain run build asm disasm exec
   [2]
   $ ven exec add.image add.arrays 4 12
   error: usage
@@ -143,6 +157,20 @@ No image is saved over a file that is none; over an older one it is.
   IMAGE: there is no folder `no`
   [14]
   $ ven asm add.asm add.image
+  $ ven build add.ven add.ven 7
+  error: save
+  IMAGE is `add.ven`, which is PROGRAM too, and would be lost
+  [14]
+  $ ven run add.ven add.arrays add.arrays 4 7
+  error: save
+  IMAGE is `add.arrays`, which is INPUTS too, and would be lost
+  [14]
+  $ ven build add.ven add.image 7
+  $ ven run add.ven add.arrays add.image 4 7
+  y u8[1,4]
+  5 7 9 4
+  steps 712
+  cycles 696
 
 A refusal of a text is explained as tools/why does. The explanation goes to standard error.
 
@@ -161,12 +189,39 @@ A refusal of a text is explained as tools/why does. The explanation goes to stan
   add.asm: an image begins with `VNC1` or `VNC2`, and this file doesn't
   this file is an assembler text; `asm add.asm add.image` makes an image of it
   [6]
+  $ ven exec add.ven add.arrays 4 12 100
+  error: image magic
+  add.ven: an image begins with `VNC1` or `VNC2`, and this file doesn't
+  this file is an array program; `build add.ven add.image SPAD` makes an image of it
+  [6]
+  $ ven run add.ven add.arrays add.image 4 7 add.asm
+  error: grants bad at 0
+  add.asm:1:1: two hexadecimal digits make a grant, with blanks and line ends between grants alone
+      # Adds two arrays of four bytes. With add.arrays, and the same sums as add.ven. Each work waits for  ...
+      ^
+  [4]
+  $ ven run add.ven add.arrays add.image 4 6
+  error: scratchpad need 7 have 6
+  the program's passes need a scratchpad of 7 bytes; SPAD has to be at least that
+  [5]
+  $ ven build add.ven . 7
+  error: save
+  IMAGE: `.` is a folder
+  [14]
   $ ven check add.ven 5
   error: scratchpad need 7 have 5
   the program's passes need a scratchpad of 7 bytes; SPAD has to be at least that
   [5]
 
-A full disk under the output.
+A full disk under the output, and a reader that goes away.
 
   $ ven eval add.ven add.arrays > /dev/full
   [9]
+  $ ven help > /dev/full
+  [9]
+  $ echo 'input a u8[1,1]; output y = stretch(a, 1024, 1024);' > great.ven
+  $ echo 'a u8[1,1] 7' > great.arrays
+  $ { ven eval great.ven great.arrays; echo $? > status; } | head -n 1
+  y u8[1024,1024]
+  $ cat status
+  9

@@ -155,10 +155,10 @@ Programs: the rules that they break, with what the program says of the operands.
   error: program no output
   try.ven: no statement is an `output`, so the program means nothing
   [3]
-  $ why run blur.ven blur.arrays x 4 64
-  error: program form
-  blur.ven: `run` can do one form yet: input X u8[1,C]; input Y u8[1,C]; output Z = X + Y; `eval` does any program
-  [3]
+  $ why run blur.ven blur.arrays x 4 19
+  error: scratchpad need 20 have 19
+  the program's passes need a scratchpad of 20 bytes; SPAD has to be at least that
+  [5]
 
 Array files.
 

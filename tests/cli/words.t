@@ -33,7 +33,10 @@ Too few words, and too many.
   $ venice run add.ven add.arrays add.image 4
   error: usage
   [2]
-  $ venice run add.ven add.arrays add.image 4 28 28
+  $ venice run add.ven add.arrays add.image 4 28 add.grants more
+  error: usage
+  [2]
+  $ venice build add.ven add.image 28 more
   error: usage
   [2]
 
@@ -92,7 +95,7 @@ BUDGET is 1 to 1,099,511,627,776, in the same form.
 
 The other commands take just their words, too.
 
-  $ for words in 'eval' 'eval a' 'check a' 'check a 0' 'check a 1048577' 'explain' 'run a b' 'asm' 'asm a' 'asm a b c' 'disasm' 'disasm a b' 'exec a b 1 1' 'exec a b 1 1 1 c d' 'exec a b 5 1 1' 'exec a b 1 0 1 c' 'exec a b 1 1048577 1 c' 'exec a b 1 1 1099511627777 c'; do
+  $ for words in 'eval' 'eval a' 'check a' 'check a 0' 'check a 1048577' 'explain' 'run a b' 'run a b c 5 1 d' 'run a b c 1 0 d' 'build' 'build a b' 'build a 7' 'build a b 0' 'build a b 1048577' 'build a b 7 7' 'asm' 'asm a' 'asm a b c' 'disasm' 'disasm a b' 'exec a b 1 1' 'exec a b 1 1 1 c d' 'exec a b 5 1 1' 'exec a b 1 0 1 c' 'exec a b 1 1048577 1 c' 'exec a b 1 1 1099511627777 c'; do
   >   line=$(venice $words)
   >   echo "$? $line: $words"
   > done
@@ -103,6 +106,14 @@ The other commands take just their words, too.
   2 error: usage: check a 1048577
   2 error: usage: explain
   2 error: usage: run a b
+  2 error: usage: run a b c 5 1 d
+  2 error: usage: run a b c 1 0 d
+  2 error: usage: build
+  2 error: usage: build a b
+  2 error: usage: build a 7
+  2 error: usage: build a b 0
+  2 error: usage: build a b 1048577
+  2 error: usage: build a b 7 7
   2 error: usage: asm
   2 error: usage: asm a
   2 error: usage: asm a b c
@@ -120,6 +131,9 @@ The words come before everything else: no file is looked at.
   $ venice run no.ven no.arrays no.image 0 28
   error: usage
   [2]
+  $ venice run no.ven no.arrays no.image 4 28 no.grants
+  error: file
+  [8]
 
 Words that the system can't give as text: nothing is printed, and the status is 15.
 

@@ -7,7 +7,8 @@ _venice_words() {
         eval) echo PROGRAM INPUTS ;;
         check) echo PROGRAM SPAD ;;
         explain) echo PROGRAM ;;
-        run) echo PROGRAM INPUTS IMAGE LANES SPAD ;;
+        run) echo PROGRAM INPUTS IMAGE LANES SPAD GRANTS ;;
+        build) echo PROGRAM IMAGE SPAD ;;
         asm) echo TEXT IMAGE ;;
         disasm) echo IMAGE ;;
         exec) echo IMAGE INPUTS LANES SPAD BUDGET GRANTS ;;
@@ -22,7 +23,7 @@ _venice_files() {
 }
 
 _venice() {
-    local word=${COMP_WORDS[COMP_CWORD]} commands="eval check explain run asm disasm exec" words
+    local word=${COMP_WORDS[COMP_CWORD]} commands="eval check explain run build asm disasm exec" words
     COMPREPLY=()
     if [ "$COMP_CWORD" = 1 ]; then
         case ${COMP_WORDS[0]} in *ven) commands+=" help" ;; esac

@@ -83,5 +83,7 @@ def other_kind(kind, content, path="TEXT"):
         return ["this file is empty"]
     kinds = [other for other in kinds_of(content[:1 << 20]) if other != kind]
     image = os.path.splitext(path)[0] + ".image"
-    ends = {"text": f"; `asm {path} {image}` makes an image of it"} if kind == "image" else {}
+    makes = f"{path} {image}"
+    ends = {"text": f"; `asm {makes}` makes an image of it", "program": f"; `build {makes} SPAD` makes an image of it"}
+    ends = ends if kind == "image" else {}
     return [f"this file is {CALLED[other]}{ends.get(other, '')}" for other in kinds[:1]]

@@ -1,4 +1,5 @@
 """Asks the program `venice`, by the launcher at the top of the repository, or by the program that VENICE names."""
+import errno
 import os
 import subprocess
 import sys
@@ -100,6 +101,31 @@ class Room:
 def stop(why, status=1):
     """Ends the tool with one line on standard error."""
     print(f"{os.path.basename(sys.argv[0])}: {why}", file=sys.stderr)
+    sys.exit(status)
+
+
+def put(output):
+    """Writes all of these bytes to standard output, which may be unbuffered, and so take a part of them at a time."""
+    if not sys.stdout:
+        raise OSError(errno.EPIPE, "standard output is closed")
+    rest = memoryview(output)
+    while rest:
+        rest = rest[sys.stdout.buffer.write(rest):]
+    sys.stdout.flush()
+
+
+def end_with(main):
+    """Ends the tool with the status that `main` gives for its words. Where the output isn't taken, as by `| head`, that is 9."""
+    try:
+        status = main(sys.argv[1:])
+        if sys.stdout:
+            sys.stdout.flush()
+    except OSError as error:
+        if error.errno not in (errno.EPIPE, errno.ENOSPC):
+            raise
+        if sys.stdout:
+            os.dup2(os.open(os.devnull, os.O_WRONLY), 1)
+        status = 9
     sys.exit(status)
 
 

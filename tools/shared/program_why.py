@@ -18,7 +18,6 @@ LIMITS = {
 WHOLE = {
     "too long": "a program has at most 65536 bytes",
     "no output": "no statement is an `output`, so the program means nothing",
-    "form": "`run` can do one form yet: input X u8[1,C]; input Y u8[1,C]; output Z = X + Y; `eval` does any program",
 }
 
 

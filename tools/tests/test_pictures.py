@@ -166,6 +166,18 @@ class Filter(Case):
         self.assertEqual(strips.most_rows(1024, 2, 1, lambda count: count <= 2), 0)
         self.assertEqual(list(strips.strips(7, 3, 1, 2)), [(0, 3, 0, 5), (3, 6, 2, 7), (6, 7, 5, 7)])
 
+    def test_on_the_machine(self):
+        self.works("filter", EXAMPLES / "blur.ven", "in.png", "one.png")
+        for more in ([], ["--rows", "5"]):
+            status, _, errors = self.call("filter", EXAMPLES / "blur.ven", "in.png", "two.png", "--machine", "4,4096", *more)
+            self.assertEqual(status, 0, errors)
+            self.assertRegex(errors, r"filter: \d+ steps and \d+ cycles, on 4 lanes with 4096 bytes of scratchpad$")
+            self.assertTrue((self.picture("one.png") == self.picture("two.png")).all())
+        status, _, errors = self.call("filter", EXAMPLES / "blur.ven", "in.png", "no.png", "--machine", "1,19")
+        self.assertEqual(status, 5)
+        self.assertIn("scratchpad need 20 have 19", errors)
+        self.refuses(2, "--machine wants LANES,SPAD", "filter", EXAMPLES / "blur.ven", "in.png", "no.png", "--machine", "5,64")
+
     def test_names_and_numbers_are_put_in(self):
         program = self.file("limit.ven", "# @H\ninput a u8[@H,@W];\noutput y = select(a > @limit, 255, 0);\n")
         self.works("filter", program, "in.png", "out.png", "limit=100")

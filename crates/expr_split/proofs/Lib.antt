@@ -20,3 +20,5 @@ pub mod MappedLeaves
 pub mod Loops
 pub mod Planning
 pub mod Placement
+pub mod Table
+pub mod TableArrays

@@ -43,7 +43,7 @@ record InputsKnown (known : List ArrayType) (stmts : List Statement) (inputs bef
   taken_is : taken ≡ length before
   there : (k : ℕ) (type : ArrayType) → slice_get inputs k ≡ Some type → slice_get known k ≡ Some type
 
-input_length : (s : Statement) → length (input_type s) ≡ inputs_in s
+pub input_length : (s : Statement) → length (input_type s) ≡ inputs_in s
 input_length (Input name elem shape) = refl
 input_length (Let name value) = refl
 input_length (Output name value) = refl
@@ -113,14 +113,14 @@ pub places-length : (start : ℕ) (types : List ArrayType) → length (places_fr
 places-length start [] = refl
 places-length start (t ∷ types) = ap suc (places-length (round_up start + bytes_of t) types)
 
-record IsPlaceOf (type : ArrayType) (place : ArrayPlace) : Type 0 where
-  elem_is : place.elem ≡ type.elem
-  shape_is : place.shape ≡ type.shape
+pub record IsPlaceOf (type : ArrayType) (place : ArrayPlace) : Type 0 where
+  pub elem_is : place.elem ≡ type.elem
+  pub shape_is : place.shape ≡ type.shape
 
 some_same : {X : Type 0} (x y : X) → Some x ≡ Some y → x ≡ y
 some_same x y h = cc
 
-place-at : (start : ℕ) (types : List ArrayType) (k : ℕ) (type : ArrayType) → slice_get types k ≡ Some type → IsPlaceOf type (get_or (places_from start types) k no_place)
+pub place-at : (start : ℕ) (types : List ArrayType) (k : ℕ) (type : ArrayType) → slice_get types k ≡ Some type → IsPlaceOf type (get_or (places_from start types) k no_place)
 place-at start [] k type h = absurd cc
 place-at start (t ∷ types) zero type h =
     let same : t ≡ type = some_same t type h in record { elem_is = ap (λ (u : ArrayType). u.elem) same; shape_is = ap (λ (u : ArrayType). u.shape) same }
@@ -145,7 +145,7 @@ places-behind low start (t ∷ types) h =
     All-cons (λ (a : ArrayPlace). low ≤ a.place) (record { elem = t.elem; shape = t.shape; place = round_up start }) (places_from (round_up start + bytes_of t) types)
     (omega (arith, round-up start)) (places-behind low (round_up start + bytes_of t) types (omega (arith, round-up start)))
 
-pairs_cons : {X : Type 0} (R : X → X → Type 0) (x : X) (xs : List X) → All (R x) xs → AllPairs R xs → AllPairs R (x ∷ xs)
+pub pairs_cons : {X : Type 0} (R : X → X → Type 0) (x : X) (xs : List X) → All (R x) xs → AllPairs R xs → AllPairs R (x ∷ xs)
 pairs_cons R x xs h g zero zero d below low = absurd (omega arith)
 pairs_cons R x xs h g zero (suc j) d below low = h j d (omega arith)
 pairs_cons R x xs h g (suc i) zero d below low = absurd (omega arith)
@@ -333,7 +333,7 @@ dests-apart dest (d ∷ ds) (pass ∷ passes) h =
 not_later : (ks : List ℕ) (k low : ℕ) → k < low → All (λ j. low ≤ j) ks → ¬ Contains ks k
 not_later ks k low below all c = let at = all c.0 0 c.1 in absurd (omega (arith, at, get_or_default ks c.0 0 k c.1, c.2))
 
-passes-many : (dest : ℕ) (ds : List Draft) (passes : List Pass) → ArePassesOf dest ds passes → length passes ≡ length ds
+pub passes-many : (dest : ℕ) (ds : List Draft) (passes : List Pass) → ArePassesOf dest ds passes → length passes ≡ length ds
 passes-many dest [] [] h = refl
 passes-many dest [] (pass ∷ passes) h = absurd h
 passes-many dest (d ∷ ds) [] h = absurd h

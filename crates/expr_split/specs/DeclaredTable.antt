@@ -1,5 +1,5 @@
 -- The inputs and outputs of a program as tables, in the order of its statements, without places.
-use Rattle.std.specs.Prelude.{ℕ, List, [], ◌∷◌, ◌++◌, true, false}
+use Rattle.std.specs.Prelude.{List, [], ◌∷◌, ◌++◌, true, false}
 use Rattle.ven_base.specs.declared.entry.Entry.{Entry}
 use Rattle.shape_check.specs.Node.{elem_of, shape_of}
 use Rattle.shape_check.specs.Statement.{Statement, Input, Let, Output}

@@ -66,4 +66,4 @@ OutputsAreLeft =
     (program : List Statement) (split : Split) (inputs : Pairs)
     → IsCheckedProgram program → FitInputs program inputs → IsSplitOf program split
     → AllZip (IsLeftAs split (arrays_after split.passes (first_arrays (input_grids inputs program))))
-      (filter (λ (entry : Entry). entry.output) split.table) (meaning_of program inputs)
+    (filter (λ (entry : Entry). entry.output) split.table) (meaning_of program inputs)

@@ -23,8 +23,8 @@ use Rattle.dma_schedule.specs.Pipelined.{IsPipelined}
 
 -- ---- the list
 
--- within the passes' bound the host passes a list, up to HALT, that is pipelined for the split, and no two works of which
--- race, also where each channel may overtake
+-- within the passes' bound the host passes a list, up to HALT, that is pipelined for the split, and no two works of
+-- which race, also where each channel may overtake
 pub record HasGoodList (split : Split) (spad : ℕ) (code : Listing) : Type 0 where
   pub steps : ℕ
   pub list : List Issue
@@ -56,8 +56,8 @@ abbrev pub end_of : ImageContents → (most : ℕ) → Given → (grants : List 
 end_of image most given grants =
     run (setup_of image given.lanes) most grants (start_state image given.inputs given.spad)
 
--- it comes to HALT, with no more steps than it may make and no more cycles than steps and grants, and then the outputs in
--- memory are the program's meaning
+-- it comes to HALT, with no more steps than it may make and no more cycles than steps and grants, and then the outputs
+-- in memory are the program's meaning
 pub record EndsWell (program : List Statement) (image : ImageContents) (most : ℕ) (given : Given) (grants : List ℕ)
     : Type 0 where
   pub halts : (end_of image most given grants).end ≡ Some Halted

@@ -23,8 +23,8 @@ use Rattle.expr_split.specs.Places.{IsSplitOf}
 use Rattle.dma_schedule.specs.PipeList.{pipe_list}
 use Rattle.good_images.specs.Good.{Good, Given, IsGiven, end_of}
 
--- code of version 2 that an image has room for, whose issue list is the split's pipelined list; its steps, the halt's and
--- all beats of the list are within the bound, for any number of lanes
+-- code of version 2 that an image has room for, whose issue list is the split's pipelined list; its steps, the halt's
+-- and all beats of the list are within the bound, for any number of lanes
 pub record IsCodeFor (split : Split) (spad : ℕ) (code : Listing) : Type 0 where
   pub is_code : IsCode code
   pub version : code.version ≡ Two
@@ -60,7 +60,7 @@ abbrev pub ListsLeaveOutputs : Type 0
 ListsLeaveOutputs =
     OfCode (λ program split spad code. (given : Given) → IsGiven program spad given
     → outputs_in (sequential (pipe_list split spad) given.lanes
-      (start_state (image_with split spad code) given.inputs given.spad).store).memory split.table
+    (start_state (image_with split spad code) given.inputs given.spad).store).memory split.table
     ≡ meaning_of program given.inputs)
 
 -- arrays that fit a program's inputs fit any table that has them

@@ -4,8 +4,7 @@ use std::alloc::Global;
 use std::test::Fail;
 use ven_io::{MemFiles, MemSink, OutFault, Sink};
 use venice_run::{
-    Command, Ending, Fault, lines_are_the_text, one_answer, one_tile_adds, promise_is_complete,
-    read_words, venice,
+    Command, Ending, Fault, lines_are_the_text, one_answer, promise_is_complete, read_words, venice,
 };
 
 fn owned(alloc: Global, words: &[&str]) -> Result<Vec<String>, Fail> {
@@ -107,5 +106,4 @@ fn laws_are_called(rt: HostRuntime) {
     one_answer::<MemFiles>();
     lines_are_the_text();
     promise_is_complete(&[], &files, &out, &files, &out, 2);
-    one_tile_adds();
 }

@@ -1,20 +1,18 @@
 //! Runs the top call over files and a sink in memory, a line of standard input a run, and prints what came of it.
 //!
 //! A line is the number of the call on the files that fails, the number of the put that fails, and the words of a
-//! command; 0 fails nothing. `tile COLUMNS` prints the list of the tile that adds. The files are those of `FILES`, and
-//! `M`, to which `asm` saves here. What is printed stands in the file `stdout`, which was written by hand.
+//! command; 0 fails nothing. The files are those of `FILES`, and `M`, to which commands save here. What is printed stands
+//! in the file `stdout`, which was written by hand, but for the numbers of steps, cycles and instructions of `P`.
 #![tactic(auto)]
 
 use std::alloc::{AllocError, Global};
 use std::io;
 use std::io::Write;
-use ven_base::Elem;
 use ven_io::{MemFiles, MemSink};
-use venice_isa::{DmaWork, Issue, VecKind, VecOp, VecWork};
-use venice_run::{one_tile, venice};
+use venice_run::venice;
 
-/// An addition, its inputs, an assembler text, its image, and a file that isn't any of these.
-static FILES: [(&str, &[u8]); 5] = [
+/// An addition, its inputs, an assembler text, its image, a grant list, and a file that isn't any of these.
+static FILES: [(&str, &[u8]); 6] = [
     (
         "P",
         b"input a u8[1,4];\ninput b u8[1,4];\noutput y = a + b;\n",
@@ -25,11 +23,15 @@ static FILES: [(&str, &[u8]); 5] = [
         "H",
         b"VNC1\x10\0\0\0\0\0\0\0\0\0\0\0\x01\0\0\0\0\0\0\0\0\0\0\0",
     ),
+    ("G", b"01 04\n"),
     ("E", b""),
 ];
 
-/// The file to which `asm` saves.
+/// The file to which commands save.
 const SAVED: &str = "M";
+
+/// So many bytes of it are printed: an image's magic and header.
+const HEAD: usize = 20;
 
 fn main(rt: HostRuntime) -> io::Result<()> {
     for line in rt.lines(rt.alloc()) {
@@ -42,7 +44,6 @@ fn print_line<R: AllocGlobal + Print>(rt: &R, line: &str) -> io::Result<()> {
     println!(rt; "> {line}")?;
     let words = words_of(rt.alloc(), line)?;
     match words.as_slice() {
-        [word, columns] if word.as_str() == "tile" => print_tile(rt, number(columns)),
         [call, put, words @ ..] => print_run(rt, number(call), number(put), words),
         _ => Ok(()),
     }
@@ -90,10 +91,11 @@ fn print_reply<R: Print>(rt: &R, status: u8, taken: &[u8]) -> io::Result<()> {
     println!(rt; ">")
 }
 
-/// The bytes of the saved file, if there is one, and whether the other files hold what they held.
+/// The length and the first bytes of the saved file, if there is one, and whether the other files hold what they held.
 fn print_files<R: Print>(rt: &R, files: &MemFiles) -> io::Result<()> {
     if let Some(bytes) = files.get(SAVED) {
-        println!(rt; "{SAVED} holds {bytes:?}")?;
+        let head = &bytes[..bytes.len().min(HEAD)];
+        println!(rt; "{SAVED} holds {} bytes from {head:?}", bytes.len())?;
     }
     for (name, bytes) in &FILES {
         if files.get(name) != Some(*bytes) {
@@ -101,56 +103,4 @@ fn print_files<R: Print>(rt: &R, files: &MemFiles) -> io::Result<()> {
         }
     }
     Ok(())
-}
-
-fn print_tile<R: AllocGlobal + Print>(rt: &R, columns: u64) -> io::Result<()> {
-    if columns < 1 || columns > 2048 {
-        return Ok(());
-    }
-    for issue in &one_tile(rt.alloc(), columns as u32)? {
-        print_issue(rt, issue)?;
-    }
-    Ok(())
-}
-
-fn print_issue<R: Print>(rt: &R, issue: &Issue) -> io::Result<()> {
-    match issue {
-        Issue::Read(work) => print_transfer(rt, "read", work),
-        Issue::Write(work) => print_transfer(rt, "write", work),
-        Issue::Vector(work) => print_instruction(rt, work),
-        Issue::RWait(most) => println!(rt; "rwait {most}"),
-        Issue::WWait(most) => println!(rt; "wwait {most}"),
-        Issue::TWait(tag) => println!(rt; "twait {tag}"),
-        Issue::VWait => println!(rt; "vwait"),
-    }
-}
-
-/// The fields of a transfer, in the order of `DmaWork`.
-fn print_transfer<R: Print>(rt: &R, word: &str, work: &DmaWork) -> io::Result<()> {
-    print!(rt;
-        "{word} {} {} {} {}",
-        work.mem, work.spad, work.rows, work.bytes
-    )?;
-    println!(rt; " {} {} {}", work.mem_step, work.spad_step, work.tag)
-}
-
-/// The fields of an instruction, in the order of `VecWork`.
-fn print_instruction<R: Print>(rt: &R, work: &VecWork) -> io::Result<()> {
-    let word = if adds_bytes(&work.kind) {
-        "vec add u8 vv"
-    } else {
-        "vec"
-    };
-    print!(rt;
-        "{word} {} {} {} {} {}",
-        work.vl, work.rows, work.dst, work.a, work.b
-    )?;
-    println!(rt; " {} {} {}", work.dst_step, work.a_step, work.b_step)
-}
-
-/// Whether the instruction adds bytes in cells to bytes in cells.
-fn adds_bytes(kind: &VecKind) -> bool {
-    let is_addition = matches!(kind.op, VecOp::Add) && !kind.acc;
-    let are_bytes = matches!((kind.elem, kind.from), (Elem::U8, Elem::U8));
-    is_addition && are_bytes && !kind.a_scalar && !kind.b_scalar
 }

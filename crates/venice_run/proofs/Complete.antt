@@ -7,7 +7,7 @@ use Rattle.venice_run.specs.declared.ending.Ending.TheVariants.{Refused, Failed}
 use Rattle.venice_run.specs.declared.ending.Fault.TheVariants.{File, Memory}
 use Rattle.venice_run.specs.declared.refusal.Kind.TheVariants as kind
 use Rattle.venice_run.specs.declared.refusal.Refusal.{Refusal}
-use Rattle.venice_run.specs.declared.refusal.Refusal.TheVariants.{Usage, FileMissing, TooLong, Parse, Check, Form, Scratchpad, Arrays, Fit, Grants, Image, Text, Machine}
+use Rattle.venice_run.specs.declared.refusal.Refusal.TheVariants.{Usage, FileMissing, TooLong, Parse, Check, Scratchpad, Arrays, Fit, Grants, Image, Text, Machine}
 use Rattle.venice_run.specs.Answer.{Answer, Save, status_with, answer_status}
 use Rattle.venice_run.specs.Commands.{answer_to}
 use Rattle.venice_run.specs.Laws.{NothingFails, NoneCounted, IsComplete}
@@ -25,7 +25,6 @@ refusal_not_15 (TooLong kind.Grants) e = cc
 refusal_not_15 (TooLong kind.Image) e = cc
 refusal_not_15 (TooLong kind.Text) e = cc
 refusal_not_15 (Scratchpad shortage) e = cc
-refusal_not_15 Form e = cc
 refusal_not_15 (Parse fault) e = cc
 refusal_not_15 (Check fault) e = cc
 refusal_not_15 (Grants fault) e = cc

@@ -33,6 +33,7 @@ use Rattle.array_syntax.specs.declared.program.Program.{Program}
 use Rattle.array_syntax.specs.declared.program.Stmt.{Stmt}
 use Rattle.array_syntax.specs.Faults as syntax
 use Rattle.array_syntax.specs.Laws as syntax_laws
+use Rattle.expr_split.specs.DeclaredTable.{input_table}
 use Rattle.expr_split.specs.Laws.{SplitsAreOne}
 use Rattle.expr_split.specs.Places.{IsSplitOf}
 use Rattle.pass_plan.specs.Need.{need_of}
@@ -49,13 +50,14 @@ use Rattle.venice_run.specs.declared.refusal.Refusal.{Refusal}
 use Rattle.venice_run.specs.declared.refusal.Refusal.TheVariants.{Usage, Scratchpad}
 use Rattle.venice_run.specs.declared.refusal.Shortage.{Shortage}
 use Rattle.venice_run.specs.declared.request.Request.{Request}
-use Rattle.venice_run.specs.declared.request.Request.TheVariants.{Run, Eval, Check, Explain, Exec, Asm, Disasm}
+use Rattle.venice_run.specs.declared.request.Request.TheVariants.{Run, Build, Eval, Check, Explain, Exec, Asm, Disasm}
 use Rattle.venice_run.specs.declared.request.Resources.{Resources}
-use Rattle.venice_run.specs.Addition.{Addition, addition_program, addition_need}
 use Rattle.venice_run.specs.Answer.{Answer, prints, saves_and_prints}
 use Rattle.venice_run.specs.Asm.{Assembles, assembled, asm}
+use Rattle.venice_run.specs.Build.{build}
 use Rattle.venice_run.specs.Check.{check}
 use Rattle.venice_run.specs.Commands.{stages_of, answer_to}
+use Rattle.venice_run.specs.Compiled.{IsCompiled, compiled, saves_run}
 use Rattle.venice_run.specs.Disasm.{disasm}
 use Rattle.venice_run.specs.Endings.{parse_ending, check_ending, array_ending, grant_ending, image_ending, assembler_ending, machine_ending}
 use Rattle.venice_run.specs.Eval.{eval}
@@ -63,12 +65,12 @@ use Rattle.venice_run.specs.Exec.{Fed, prints_run, fed_image, exec}
 use Rattle.venice_run.specs.Explain.{explain}
 use Rattle.venice_run.specs.Grants.{ReadsGrants, grants_in, grants_under}
 use Rattle.venice_run.specs.Images.{image_in, image_under}
-use Rattle.venice_run.specs.Inputs.{Reads, input_table, fitting, arrays_in, arrays_under, inputs_under}
+use Rattle.venice_run.specs.Inputs.{Reads, fitting, arrays_in, arrays_under, inputs_under}
 use Rattle.venice_run.specs.Laws.{ShowsOne, IsPlain}
-use Rattle.venice_run.specs.Plan.{splits, has_room}
+use Rattle.venice_run.specs.Plan.{Planned, splits, has_room, plan_of, plan_under}
 use Rattle.venice_run.specs.Programs.{Parses, Checks, program_in, program_under}
 use Rattle.venice_run.specs.Reading.{text_under, whole_text, loads, limit_of}
-use Rattle.venice_run.specs.Run.{addition_in, run}
+use Rattle.venice_run.specs.Run.{run}
 use Rattle.venice_run.specs.Stage.{Then, Ends, Goes, step, gives, refuses}
 use Rattle.venice_run.specs.Words.{AreInRange, Spells, words_of}
 use Rattle.venice_run.proofs.NoFile.{parse_no_file, check_no_file, array_no_file, grant_no_file, image_no_file, assembler_no_file, machine_no_file}
@@ -164,27 +166,7 @@ load_lawful files name limit = record { once = once; fails = λ may. record { na
 pub refuses_lawful : {A : Type 0} (files : Behaviour) (refusal : Refusal) → Lawful {A = A} files (refuses refusal)
 refuses_lawful files refusal = record { once = λ sure a b p q pa pb. p ∙ sym q; fails = λ e. absurd cc }
 
--- a program is one addition
-same_addition : (a b : Addition) → addition_program a ≡ addition_program b → a ≡ b
-same_addition a b e =
-    let first : a.first ≡ b.first = cc in
-    let second : a.second ≡ b.second = cc in
-    let sum : a.sum ≡ b.sum = cc in
-    let shape : a.shape ≡ b.shape = cc in
-    λ i. record { first = first i; second = second i; sum = sum i; shape = shape i }
-
-addition_in_lawful : (files : Behaviour) (program : List Statement) → Lawful files (addition_in program)
-addition_in_lawful files program = record { once = once; fails = λ e. absurd e }
-  where
-    once : Settled files → (a b : Result Addition Ending) → addition_in program a → addition_in program b → IsPlain a → IsPlain b → a ≡ b
-    once sure (Ok a) (Ok b) p q pa pb = ap Ok (same_addition a b (sym p.program_is ∙ q.program_is))
-    once sure (Ok a) (Err (Refused r)) p q pa pb = absurd (q.0 a p)
-    once sure (Err (Refused r)) (Ok b) p q pa pb = absurd (p.0 b q)
-    once sure (Err (Refused r)) (Err (Refused s)) p q pa pb = rw (p.1, q.1) refl
-    once sure (Err (Failed f)) b p q pa pb = absurd pa
-    once sure (Ok a) (Err (Failed f)) p q pa pb = absurd pb
-    once sure (Err (Refused r)) (Err (Failed f)) p q pa pb = absurd pb
-
+-- room in a scratchpad
 room_lawful : (files : Behaviour) (need spad : ℕ) → Lawful files (has_room need spad)
 room_lawful files need spad = record { once = once; fails = λ p. absurd (no_file p.0 p.2) }
   where
@@ -324,6 +306,21 @@ inputs_lawful files name table = then_lawful (arrays_lawful files name) (λ arra
 splits_lawful : (files : Behaviour) (program : List Statement) → Lawful files (splits program)
 splits_lawful files program = gives_lawful files (IsSplitOf program) (λ sure a b p q. sure.splits program a b p q)
 
+plan_lawful : (files : Behaviour) (program : List Statement) (spad : ℕ) → Lawful files (plan_of program spad)
+unfolding plan_of
+plan_lawful files program spad =
+    then_lawful (splits_lawful files program) (λ split.
+    then_lawful (room_lawful files (need_of split.passes) spad) (λ _.
+    gives_lawful files (λ (planned : Planned). planned ≡ record { program = program; split = split }) (λ sure a b p q. p ∙ sym q)))
+
+plan_under_lawful : (files : Behaviour) (program : List ℕ) (spad : ℕ) → Lawful files (plan_under files program spad)
+unfolding plan_under
+plan_under_lawful files program spad = then_lawful (program_lawful files program) (λ checked. plan_lawful files checked spad)
+
+compiled_lawful : (files : Behaviour) (planned : Planned) (spad : ℕ) → Lawful files (compiled planned spad)
+unfolding compiled
+compiled_lawful files planned spad = gives_lawful files (IsCompiled planned spad) (λ sure a b p q. p.is ∙ sym q.is)
+
 -- the image of bytes
 image_plain : (A : Type 0) (fault : ImageFault) → fault ≡ image_fault.Memory → IsPlain {A = A} (Err (image_ending fault)) → ⊥
 image_plain A fault is plain = subst (λ (f : ImageFault). IsPlain {A = A} (Err (image_ending f))) is plain
@@ -422,10 +419,7 @@ eval_lawful files program inputs =
 
 check_lawful : (files : Behaviour) (program : List ℕ) (spad : ℕ) → Lawful files (check files program spad)
 unfolding check
-check_lawful files program spad =
-    then_lawful (program_lawful files program) (λ checked.
-    then_lawful (splits_lawful files checked) (λ split.
-    then_lawful (room_lawful files (need_of split.passes) spad) (λ _. prints_lawful files _)))
+check_lawful files program spad = then_lawful (plan_under_lawful files program spad) (λ planned. prints_lawful files _)
 
 explain_lawful : (files : Behaviour) (program : List ℕ) → Lawful files (explain files program)
 unfolding explain
@@ -433,13 +427,25 @@ explain_lawful files program =
     then_lawful (program_lawful files program) (λ checked.
     then_lawful (splits_lawful files checked) (λ split. prints_lawful files _))
 
-run_lawful : (files : Behaviour) (program inputs : List ℕ) (spad : ℕ) → Lawful files (run files program inputs spad)
+saves_run_lawful : (files : Behaviour) (image : List ℕ) (planned : Planned) (lanes spad : ℕ) (arrays : Pairs) (grants : List ℕ)
+    → Lawful files (saves_run image planned lanes spad arrays grants)
+unfolding saves_run
+saves_run_lawful files image planned lanes spad arrays grants =
+    then_lawful (compiled_lawful files planned spad) (λ made. saves_lawful files image _ _)
+
+run_lawful : (files : Behaviour) (program inputs image : List ℕ) (lanes spad : ℕ) (grants : Option (List ℕ))
+    → Lawful files (run files program inputs image lanes spad grants)
 unfolding run
-run_lawful files program inputs spad =
-    then_lawful (program_lawful files program) (λ checked.
-    then_lawful (addition_in_lawful files checked) (λ addition.
-    then_lawful (room_lawful files (addition_need addition) spad) (λ _.
-    then_lawful (inputs_lawful files inputs (input_table checked)) (λ arrays. prints_lawful files _))))
+run_lawful files program inputs image lanes spad grants =
+    then_lawful (plan_under_lawful files program spad) (λ planned.
+    then_lawful (inputs_lawful files inputs (input_table planned.program)) (λ arrays.
+    then_lawful (grants_lawful files grants) (λ list. saves_run_lawful files image planned lanes spad arrays list)))
+
+build_lawful : (files : Behaviour) (program image : List ℕ) (spad : ℕ) → Lawful files (build files program image spad)
+unfolding build
+build_lawful files program image spad =
+    then_lawful (plan_under_lawful files program spad) (λ planned.
+    then_lawful (compiled_lawful files planned spad) (λ made. saves_lawful files image _ []))
 
 fed_lawful : (files : Behaviour) (image inputs : List ℕ) (spad : ℕ) → Lawful files (fed_image files image inputs spad)
 unfolding fed_image
@@ -468,7 +474,9 @@ disasm_lawful files image = then_lawful (image_lawful files image) (λ loaded. p
 
 -- each request's stages
 stages_lawful : (files : Behaviour) (request : Request) → Lawful files (stages_of files request)
-stages_lawful files (Run program inputs image lanes spad) = run_lawful files program.now inputs.now spad
+stages_lawful files (Run program inputs image lanes spad grants) =
+    run_lawful files program.now inputs.now image.now lanes spad (option_map (λ name. name.now) grants)
+stages_lawful files (Build program image spad) = build_lawful files program.now image.now spad
 stages_lawful files (Eval program inputs) = eval_lawful files program.now inputs.now
 stages_lawful files (Check program spad) = check_lawful files program.now spad
 stages_lawful files (Explain program) = explain_lawful files program.now
@@ -495,14 +503,27 @@ same_resources r s in_r in_s lanes spads budgets =
 -- words spell one request, but for where its names lie in memory
 same_stages : (files : Behaviour) (words : List (List ℕ)) (r s : Request) → Spells words r → Spells words s → (b : Result Answer Ending) → stages_of files s b
     → stages_of files r b
-same_stages files words (Run p i m l n) (Run q j k o t) spells spells_s b h =
-    let e : words_of (Run p i m l n) ≡ words_of (Run q j k o t) = sym spells.words_are ∙ spells_s.words_are in
+same_stages files words (Run p i m l n g) (Run q j k o t f) spells spells_s b h =
+    let e : words_of (Run p i m l n g) ≡ words_of (Run q j k o t f) = sym spells.words_are ∙ spells_s.words_are in
     let programs : p.now ≡ q.now = cc in
     let inputs : i.now ≡ j.now = cc in
-    let spads : decimal n ≡ decimal t = cc in
-    let sizes : n ≡ t = decimal_injective n t (omega (arith, spells.in_range.1.1)) (omega (arith, spells_s.in_range.1.1)) spads in
-    rw (programs, inputs, sizes) h
-same_stages files words (Run p i m l n) s spells spells_s b h = absurd cc
+    let images : m.now ≡ k.now = cc in
+    let lane_words : decimal l ≡ decimal o = cc in
+    let spad_words : decimal n ≡ decimal t = cc in
+    let names : option_to_list (option_map (λ name. name.now) g) ≡ option_to_list (option_map (λ name. name.now) f) = cc in
+    let lanes : l ≡ o = decimal_injective l o (omega (arith, spells.in_range.0.1)) (omega (arith, spells_s.in_range.0.1)) lane_words in
+    let spads : n ≡ t = decimal_injective n t (omega (arith, spells.in_range.1.1)) (omega (arith, spells_s.in_range.1.1)) spad_words in
+    let grants = one_name (option_map (λ name. name.now) g) (option_map (λ name. name.now) f) names in
+    rw (programs, inputs, images, lanes, spads, grants) h
+same_stages files words (Run p i m l n g) s spells spells_s b h = absurd cc
+same_stages files words (Build p m n) (Build q k t) spells spells_s b h =
+    let e : words_of (Build p m n) ≡ words_of (Build q k t) = sym spells.words_are ∙ spells_s.words_are in
+    let programs : p.now ≡ q.now = cc in
+    let images : m.now ≡ k.now = cc in
+    let spad_words : decimal n ≡ decimal t = cc in
+    let spads : n ≡ t = decimal_injective n t (omega (arith, spells.in_range.1)) (omega (arith, spells_s.in_range.1)) spad_words in
+    rw (programs, images, spads) h
+same_stages files words (Build p m n) s spells spells_s b h = absurd cc
 same_stages files words (Eval p i) (Eval q j) spells spells_s b h =
     let e : words_of (Eval p i) ≡ words_of (Eval q j) = sym spells.words_are ∙ spells_s.words_are in
     let programs : p.now ≡ q.now = cc in

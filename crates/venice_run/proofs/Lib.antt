@@ -10,10 +10,8 @@ pub mod Taking
 pub mod Requests
 pub mod Stages
 pub mod Ready
-pub mod Fitted
+pub mod Halting
+pub mod Saved
+pub mod Tables
 pub mod Listing
 pub mod Plans
-pub mod Meant
-pub mod Rows
-pub mod Tiles
-pub mod Steps

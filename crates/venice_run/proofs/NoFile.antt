@@ -20,11 +20,15 @@ use Rattle.venice_machine.specs.declared.grants.GrantFault.TheVariants as grant_
 use Rattle.venice_machine.specs.declared.stop.Stop.{Stop}
 use Rattle.venice_machine.specs.State.{State}
 use Rattle.venice_run.specs.Answer.{Answer}
+use Rattle.venice_run.specs.Plan.{Planned, plan_of}
 use Rattle.venice_run.specs.Exec.{prints_run}
 use Rattle.venice_run.specs.declared.ending.Ending.{Ending}
-use Rattle.venice_run.specs.declared.ending.Ending.TheVariants.{Failed}
+use Rattle.venice_run.specs.declared.ending.Ending.TheVariants.{Refused, Failed}
 use Rattle.venice_run.specs.declared.ending.Fault.TheVariants.{File, Memory}
+use Rattle.venice_run.specs.declared.refusal.Refusal.TheVariants.{Scratchpad}
 use Rattle.venice_run.specs.Asm.{assembled}
+use Rattle.venice_run.specs.Build.{saves_image}
+use Rattle.venice_run.specs.Compiled.{compiled, saves_run}
 use Rattle.venice_run.specs.Endings.{parse_ending, check_ending, array_ending, grant_ending, image_ending, assembler_ending, machine_ending}
 use Rattle.venice_run.specs.Grants.{grants_in}
 use Rattle.venice_run.specs.Images.{image_in}
@@ -86,6 +90,13 @@ unfolding program_in
 program_no_file text (Ends ending is same) = parse_no_file is.0 (file_is {A = List Statement} ending same ∙ is.2)
 program_no_file text (Goes program is goes) = check_no_file goes.0 goes.2
 
+pub plan_no_file : (program : List Statement) (spad : ℕ) → plan_of program spad (Err (Failed File)) → ⊥
+unfolding plan_of
+plan_no_file program spad (Ends ending is same) = let other : Failed File ≡ Failed Memory = file_is {A = Planned} ending same ∙ is in cc
+plan_no_file program spad (Goes split is (Ends ending short same)) =
+    let other : Failed File ≡ Refused (Scratchpad short.0) = file_is {A = Planned} ending same ∙ short.2 in cc
+plan_no_file program spad (Goes split is (Goes done room goes)) = let other : Failed File ≡ Failed Memory = goes in cc
+
 pub arrays_no_file : (text : List ℕ) → arrays_in text (Err (Failed File)) → ⊥
 unfolding arrays_in
 arrays_no_file text p = array_no_file p.0 p.2
@@ -109,3 +120,15 @@ run_no_file table state (Goes counts is goes) = let other : Failed File ≡ Fail
 pub assembled_no_file : (text : List ℕ) → assembled text (Err (Failed File)) → ⊥
 unfolding assembled
 assembled_no_file text p = assembler_no_file p.0 p.2
+
+pub run_saved_no_file : (image : List ℕ) (planned : Planned) (lanes spad : ℕ) (arrays : Pairs) (grants : List ℕ)
+    → saves_run image planned lanes spad arrays grants (Err (Failed File)) → ⊥
+unfolding saves_run compiled
+run_saved_no_file image planned lanes spad arrays grants (Ends ending is same) =
+    let other : Failed File ≡ Failed Memory = file_is {A = Answer} ending same ∙ is in cc
+run_saved_no_file image planned lanes spad arrays grants (Goes made is goes) = let other : Failed File ≡ Failed Memory = goes in cc
+
+pub image_saved_no_file : (image : List ℕ) (planned : Planned) (spad : ℕ) → saves_image image planned spad (Err (Failed File)) → ⊥
+unfolding compiled
+image_saved_no_file image planned spad (Ends ending is same) = let other : Failed File ≡ Failed Memory = file_is {A = Answer} ending same ∙ is in cc
+image_saved_no_file image planned spad (Goes made is goes) = let other : Failed File ≡ Failed Memory = goes in cc

@@ -7,9 +7,9 @@ use Rattle.std.specs.declared.alloc.Global.{Global}
 use Rattle.std.proofs.lemmas.Fmt.{parse-decimal}
 use Rattle.std.proofs.lemmas.List.{get_or-map}
 use Rattle.venice_run.specs.declared.request.Request.{Request}
-use Rattle.venice_run.specs.declared.request.Request.TheVariants.{Run, Eval, Check, Explain, Exec, Asm, Disasm}
+use Rattle.venice_run.specs.declared.request.Request.TheVariants.{Run, Build, Eval, Check, Explain, Exec, Asm, Disasm}
 use Rattle.venice_run.specs.declared.request.Resources.{Resources}
-use Rattle.venice_run.specs.Requests.{IsRun, IsEval, IsCheck, IsExplain, IsFreeExec, IsGrantedExec, IsAsm, IsDisasm, SpellResources}
+use Rattle.venice_run.specs.Requests.{IsFreeRun, IsGrantedRun, IsBuild, IsEval, IsCheck, IsExplain, IsFreeExec, IsGrantedExec, IsAsm, IsDisasm, SpellResources}
 use Rattle.venice_run.specs.Words.{texts_of, words_of, IsUpTo, AreInRange, Spells}
 
 read : {E : Type 0} (text : List ℕ) (most n : ℕ) (r : Result ℕ E) → most < 2 ^ 64 → n ≤ most → text ≡ decimal n → ParsesUnsigned 64 10 text r → r ≡ Ok n
@@ -38,24 +38,50 @@ not_plain text m n false e is off told = let told_true : IsTrue false = told (is
 pub word_at : (words : List (String Global)) (word : String Global) (k : ℕ) → word ≡ get_or words k word → k < length words → string_bytes word ≡ get_or (texts_of words) k []
 word_at words word k is lt = ap string_bytes is ∙ sym (get_or-map string_bytes words k word [] lt)
 
--- `run`: the fifth and the sixth word are its numbers
-pub no_lanes : (words : List (String Global)) (word : String Global) → word ≡ get_or words 4 word → 6 ≤ length words → ((n : ℕ) → IsUpTo 4 n → string_bytes word ≡ decimal n → ⊥)
-    → (request : Request) → IsRun request → ¬ Spells (texts_of words) request
-no_lanes words word is long none (Run program inputs image lanes spad) run spells =
-    none lanes spells.in_range.0 (word_at words word 4 is (omega arith) ∙ ap (λ (ws : List (List ℕ)). get_or ws 4 []) spells.words_are)
-no_lanes words word is long none request run spells = absurd run
+-- a word that is no number up to the greatest, where a request has one
+no_number : (words : List (String Global)) (word : String Global) (k most : ℕ) → word ≡ get_or words k word → k < length words
+    → ((n : ℕ) → IsUpTo most n → string_bytes word ≡ decimal n → ⊥)
+    → (n : ℕ) → IsUpTo most n → (request : Request) → get_or (words_of request) k [] ≡ decimal n → ¬ Spells (texts_of words) request
+no_number words word k most is inside none n in_range request there spells =
+    none n in_range (word_at words word k is inside ∙ ap (λ (ws : List (List ℕ)). get_or ws k []) spells.words_are ∙ there)
 
-pub no_spad : (words : List (String Global)) (word : String Global) → word ≡ get_or words 5 word → 6 ≤ length words → ((n : ℕ) → IsUpTo 1048576 n → string_bytes word ≡ decimal n → ⊥)
-    → (request : Request) → IsRun request → ¬ Spells (texts_of words) request
-no_spad words word is long none (Run program inputs image lanes spad) run spells =
-    none spad spells.in_range.1 (word_at words word 5 is (omega arith) ∙ ap (λ (ws : List (List ℕ)). get_or ws 5 []) spells.words_are)
-no_spad words word is long none request run spells = absurd run
+-- `run`: the fifth and the sixth word are its numbers
+pub no_free_lanes : (words : List (String Global)) (word : String Global) → word ≡ get_or words 4 word → 6 ≤ length words
+    → ((n : ℕ) → IsUpTo 4 n → string_bytes word ≡ decimal n → ⊥) → (request : Request) → IsFreeRun request → ¬ Spells (texts_of words) request
+no_free_lanes words word is long none (Run program inputs image lanes spad None) run spells =
+    no_number words word 4 4 is (omega arith) none lanes spells.in_range.0 (Run program inputs image lanes spad None) refl spells
+no_free_lanes words word is long none request run spells = absurd run
+
+pub no_free_spad : (words : List (String Global)) (word : String Global) → word ≡ get_or words 5 word → 6 ≤ length words
+    → ((n : ℕ) → IsUpTo 1048576 n → string_bytes word ≡ decimal n → ⊥) → (request : Request) → IsFreeRun request → ¬ Spells (texts_of words) request
+no_free_spad words word is long none (Run program inputs image lanes spad None) run spells =
+    no_number words word 5 1048576 is (omega arith) none spad spells.in_range.1 (Run program inputs image lanes spad None) refl spells
+no_free_spad words word is long none request run spells = absurd run
+
+pub no_granted_lanes : (words : List (String Global)) (word : String Global) → word ≡ get_or words 4 word → 7 ≤ length words
+    → ((n : ℕ) → IsUpTo 4 n → string_bytes word ≡ decimal n → ⊥) → (request : Request) → IsGrantedRun request → ¬ Spells (texts_of words) request
+no_granted_lanes words word is long none (Run program inputs image lanes spad (Some grants)) run spells =
+    no_number words word 4 4 is (omega arith) none lanes spells.in_range.0 (Run program inputs image lanes spad (Some grants)) refl spells
+no_granted_lanes words word is long none request run spells = absurd run
+
+pub no_granted_spad : (words : List (String Global)) (word : String Global) → word ≡ get_or words 5 word → 7 ≤ length words
+    → ((n : ℕ) → IsUpTo 1048576 n → string_bytes word ≡ decimal n → ⊥) → (request : Request) → IsGrantedRun request → ¬ Spells (texts_of words) request
+no_granted_spad words word is long none (Run program inputs image lanes spad (Some grants)) run spells =
+    no_number words word 5 1048576 is (omega arith) none spad spells.in_range.1 (Run program inputs image lanes spad (Some grants)) refl spells
+no_granted_spad words word is long none request run spells = absurd run
+
+-- `build`: the fourth word is its number
+pub no_build_size : (words : List (String Global)) (word : String Global) → word ≡ get_or words 3 word → 4 ≤ length words
+    → ((n : ℕ) → IsUpTo 1048576 n → string_bytes word ≡ decimal n → ⊥) → (request : Request) → IsBuild request → ¬ Spells (texts_of words) request
+no_build_size words word is long none (Build program image spad) build spells =
+    no_number words word 3 1048576 is (omega arith) none spad spells.in_range (Build program image spad) refl spells
+no_build_size words word is long none request build spells = absurd build
 
 -- `check`: the third word is its number
-pub no_size : (words : List (String Global)) (word : String Global) → word ≡ get_or words 2 word → 3 ≤ length words → ((n : ℕ) → IsUpTo 1048576 n → string_bytes word ≡ decimal n → ⊥)
-    → (request : Request) → IsCheck request → ¬ Spells (texts_of words) request
+pub no_size : (words : List (String Global)) (word : String Global) → word ≡ get_or words 2 word → 3 ≤ length words
+    → ((n : ℕ) → IsUpTo 1048576 n → string_bytes word ≡ decimal n → ⊥) → (request : Request) → IsCheck request → ¬ Spells (texts_of words) request
 no_size words word is long none (Check program spad) check spells =
-    none spad spells.in_range (word_at words word 2 is (omega arith) ∙ ap (λ (ws : List (List ℕ)). get_or ws 2 []) spells.words_are)
+    no_number words word 2 1048576 is (omega arith) none spad spells.in_range (Check program spad) refl spells
 no_size words word is long none request check spells = absurd check
 
 -- `exec`: the fourth, fifth and sixth word are its numbers
@@ -106,6 +132,12 @@ six (u ∷ v ∷ w ∷ x ∷ y ∷ z ∷ []) a b c d e f low high p0 p1 p2 p3 p4
 six _ a b c d e f low high p0 p1 p2 p3 p4 p5 = absurd (omega arith)
 
 -- and fewer
+pub four : (words : List (String Global)) (a b c d : String Global) → 4 ≤ length words → length words < 5
+    → a ≡ get_or words 0 a → b ≡ get_or words 1 b → c ≡ get_or words 2 c → d ≡ get_or words 3 d
+    → texts_of words ≡ string_bytes a ∷ string_bytes b ∷ string_bytes c ∷ string_bytes d ∷ []
+four (u ∷ v ∷ w ∷ x ∷ []) a b c d low high p0 p1 p2 p3 = cc
+four _ a b c d low high p0 p1 p2 p3 = absurd (omega arith)
+
 pub three : (words : List (String Global)) (a b c : String Global) → 3 ≤ length words → length words < 4 → a ≡ get_or words 0 a → b ≡ get_or words 1 b → c ≡ get_or words 2 c
     → texts_of words ≡ string_bytes a ∷ string_bytes b ∷ string_bytes c ∷ []
 three (u ∷ v ∷ w ∷ []) a b c low high p0 p1 p2 = cc
@@ -126,19 +158,29 @@ other_word words word request other is spells = other (ap (λ (ws : List (List �
 abbrev pub SpellNo : (Request → Type 0) → List (List ℕ) → Type 0
 SpellNo is words = (request : Request) → is request → ¬ Spells words request
 
+-- the words spell none of the requests of `run`, `build` and `exec`
+pub record SpellNoRun (words : List (List ℕ)) : Type 0 where
+  pub free_run : SpellNo IsFreeRun words
+  pub granted_run : SpellNo IsGrantedRun words
+  pub build : SpellNo IsBuild words
+  pub free_exec : SpellNo IsFreeExec words
+  pub granted_exec : SpellNo IsGrantedExec words
+
 -- words that spell none of the first commands' requests spell what the last one's say
-pub last : (words : List (List ℕ)) (found : Option Request)
-    → SpellNo IsRun words → SpellNo IsEval words → SpellNo IsCheck words → SpellNo IsExplain words → SpellNo IsFreeExec words → SpellNo IsGrantedExec words → SpellNo IsAsm words
+pub last : (words : List (List ℕ)) (found : Option Request) → SpellNoRun words
+    → SpellNo IsEval words → SpellNo IsCheck words → SpellNo IsExplain words → SpellNo IsAsm words
     → MatchOption found (SpellNo IsDisasm words) (Spells words) → MatchOption found ((request : Request) → ¬ Spells words request) (Spells words)
-last words (Some request) no_run no_eval no_check no_explain no_free no_granted no_asm spells = spells
-last words None no_run no_eval no_check no_explain no_free no_granted no_asm no_disasm = none
+last words (Some request) no_run no_eval no_check no_explain no_asm spells = spells
+last words None no_run no_eval no_check no_explain no_asm no_disasm = none
   where
     none : (request : Request) → ¬ Spells words request
-    none (Run program inputs image lanes spad) = no_run (Run program inputs image lanes spad) tt
+    none (Run program inputs image lanes spad None) = no_run.free_run (Run program inputs image lanes spad None) tt
+    none (Run program inputs image lanes spad (Some grants)) = no_run.granted_run (Run program inputs image lanes spad (Some grants)) tt
+    none (Build program image spad) = no_run.build (Build program image spad) tt
     none (Eval program inputs) = no_eval (Eval program inputs) tt
     none (Check program spad) = no_check (Check program spad) tt
     none (Explain program) = no_explain (Explain program) tt
-    none (Exec image inputs resources None) = no_free (Exec image inputs resources None) tt
-    none (Exec image inputs resources (Some grants)) = no_granted (Exec image inputs resources (Some grants)) tt
+    none (Exec image inputs resources None) = no_run.free_exec (Exec image inputs resources None) tt
+    none (Exec image inputs resources (Some grants)) = no_run.granted_exec (Exec image inputs resources (Some grants)) tt
     none (Asm text image) = no_asm (Asm text image) tt
     none (Disasm image) = no_disasm (Disasm image) tt

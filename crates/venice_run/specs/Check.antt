@@ -14,9 +14,8 @@ use Rattle.shape_check.specs.Statement.{Statement, Input, Let, Output}
 use Rattle.venice_run.specs.Answer.{Answer, prints}
 use Rattle.venice_run.specs.Line.{Words, Number, spaced}
 use Rattle.venice_run.specs.Lines.{lines_from}
-use Rattle.venice_run.specs.Plan.{splits, has_room}
-use Rattle.venice_run.specs.Programs.{program_under}
-use Rattle.venice_run.specs.Stage.{Stage, ◌>>=◌, ◌>>◌}
+use Rattle.venice_run.specs.Plan.{plan_under}
+use Rattle.venice_run.specs.Stage.{Stage, ◌>>=◌}
 
 -- an output's line `NAME TYPE[R,C]`; other statements have none
 abbrev pub output_line : Statement → List ℕ
@@ -56,7 +55,5 @@ plan_text program passes spad =
 
 unfoldable pub check : Behaviour → (program : List ℕ) → ℕ → Stage Answer
 check files program spad = do
-  checked ← program_under files program
-  split ← splits checked
-  has_room (need_of split.passes) spad
-  prints (plan_text checked split.passes spad)
+  planned ← plan_under files program spad
+  prints (plan_text planned.program planned.split.passes spad)

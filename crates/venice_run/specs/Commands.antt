@@ -5,9 +5,10 @@ use Rattle.ven_io.specs.Files.{Behaviour}
 use Rattle.venice_run.specs.declared.ending.Ending.TheVariants.{Refused}
 use Rattle.venice_run.specs.declared.refusal.Refusal.TheVariants.{Usage}
 use Rattle.venice_run.specs.declared.request.Request.{Request}
-use Rattle.venice_run.specs.declared.request.Request.TheVariants.{Run, Eval, Check, Explain, Exec, Asm, Disasm}
+use Rattle.venice_run.specs.declared.request.Request.TheVariants.{Run, Build, Eval, Check, Explain, Exec, Asm, Disasm}
 use Rattle.venice_run.specs.Answer.{Answer}
 use Rattle.venice_run.specs.Asm.{asm}
+use Rattle.venice_run.specs.Build.{build}
 use Rattle.venice_run.specs.Check.{check}
 use Rattle.venice_run.specs.Disasm.{disasm}
 use Rattle.venice_run.specs.Eval.{eval}
@@ -19,7 +20,9 @@ use Rattle.venice_run.specs.Words.{Spells}
 
 -- the stages of each request
 abbrev pub stages_of : Behaviour → Request → Stage Answer
-stages_of files (Run program inputs image lanes spad) = run files program.now inputs.now spad
+stages_of files (Run program inputs image lanes spad grants) =
+    run files program.now inputs.now image.now lanes spad (option_map (λ name. name.now) grants)
+stages_of files (Build program image spad) = build files program.now image.now spad
 stages_of files (Eval program inputs) = eval files program.now inputs.now
 stages_of files (Check program spad) = check files program.now spad
 stages_of files (Explain program) = explain files program.now

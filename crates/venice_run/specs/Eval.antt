@@ -3,8 +3,9 @@ use Rattle.std.specs.Prelude.{ℕ, List}
 use Rattle.ven_io.specs.Files.{Behaviour}
 use Rattle.array_file.specs.Output.{arrays_text}
 use Rattle.shape_check.specs.Meaning.{meaning_of}
+use Rattle.expr_split.specs.DeclaredTable.{input_table}
 use Rattle.venice_run.specs.Answer.{Answer, prints}
-use Rattle.venice_run.specs.Inputs.{input_table, inputs_under}
+use Rattle.venice_run.specs.Inputs.{inputs_under}
 use Rattle.venice_run.specs.Programs.{program_under}
 use Rattle.venice_run.specs.Stage.{Stage, ◌>>=◌}
 

@@ -1,5 +1,5 @@
 -- The inputs under a name: an array file whose arrays fit the inputs of a table, as a program or an image has one.
-use Rattle.std.specs.Prelude.{◌≡◌, ℕ, List, [], ◌∷◌, ◌++◌, false, Result, Ok, Err}
+use Rattle.std.specs.Prelude.{◌≡◌, ℕ, List, Result, Ok, Err}
 use Rattle.ven_base.specs.declared.entry.Entry.{Entry}
 use Rattle.ven_base.specs.Pairs.{Pairs}
 use Rattle.ven_io.specs.Files.{Behaviour}
@@ -7,7 +7,6 @@ use Rattle.array_file.specs.declared.fault.ArrayFault.{ArrayFault}
 use Rattle.array_file.specs.declared.fitting.FitFault.{FitFault}
 use Rattle.array_file.specs.Faults.{DenotesArrays, IsAnswered}
 use Rattle.array_file.specs.Fitting.{Fits, IsUnfit}
-use Rattle.shape_check.specs.Statement.{Statement, Input, Let, Output}
 use Rattle.venice_run.specs.declared.ending.Ending.TheVariants.{Refused, Failed}
 use Rattle.venice_run.specs.declared.ending.Fault.TheVariants.{Memory}
 use Rattle.venice_run.specs.declared.refusal.Kind.TheVariants as kind
@@ -15,17 +14,6 @@ use Rattle.venice_run.specs.declared.refusal.Refusal.TheVariants.{Fit}
 use Rattle.venice_run.specs.Endings.{array_ending}
 use Rattle.venice_run.specs.Reading.{loads}
 use Rattle.venice_run.specs.Stage.{Stage, ◌>>=◌, step}
-
--- the program's inputs as a table, in the order of its statements
-abbrev pub input_entry : Statement → List Entry
-input_entry (Input name elem shape) =
-    record { name = name; output = false; elem = elem; shape = shape; place = 0 } ∷ []
-input_entry (Let name value) = []
-input_entry (Output name value) = []
-
-abbrev pub input_table : List Statement → List Entry
-input_table [] = []
-input_table (statement ∷ more) = input_entry statement ++ input_table more
 
 -- the arrays that the text denotes, or its first fault
 abbrev pub Reads : List ℕ → Result Pairs ArrayFault → Type 0

@@ -1,6 +1,3 @@
-pub mod Addition
-pub mod Additions
-pub mod Output
 pub mod Line
 pub mod Parts
 pub mod Stage
@@ -10,14 +7,17 @@ pub mod Endings
 pub mod Programs
 pub mod Inputs
 pub mod Plan
+pub mod Plans
 pub mod Images
 pub mod Grants
-pub mod Run
 pub mod Eval
 pub mod Check
 pub mod Explain
 pub mod Exec
 pub mod Ready
+pub mod Compiled
+pub mod Build
+pub mod Run
 pub mod Asm
 pub mod Disasm
 pub mod Words
@@ -27,6 +27,3 @@ pub mod Lines
 pub mod Promise
 pub mod Outcomes
 pub mod Laws
-pub mod Tile
-pub mod TileLaw
-pub mod Executor

@@ -24,7 +24,7 @@ use Rattle.venice_run.specs.declared.ending.Fault.TheVariants.{File, Memory}
 use Rattle.venice_run.specs.declared.refusal.Kind.{Kind}
 use Rattle.venice_run.specs.declared.refusal.Kind.TheVariants as kind
 use Rattle.venice_run.specs.declared.refusal.Refusal.{Refusal}
-use Rattle.venice_run.specs.declared.refusal.Refusal.TheVariants.{Usage, FileMissing, TooLong, Parse, Check, Form, Scratchpad, Arrays, Fit, Grants, Image, Text, Machine}
+use Rattle.venice_run.specs.declared.refusal.Refusal.TheVariants.{Usage, FileMissing, TooLong, Parse, Check, Scratchpad, Arrays, Fit, Grants, Image, Text, Machine}
 
 -- A part of a line: words (or a name), or a number in decimal.
 pub data Part : Type 0 where
@@ -139,7 +139,6 @@ refusal_parts FileMissing = Words (codes "file missing") ∷ []
 refusal_parts (TooLong kind) = Words (kind_word kind) ∷ Words (codes "too long") ∷ []
 refusal_parts (Parse fault) = parse_parts fault
 refusal_parts (Check fault) = check_parts fault
-refusal_parts Form = Words (codes "program form") ∷ []
 refusal_parts (Scratchpad shortage) =
     Words (codes "scratchpad need") ∷ Number shortage.need ∷ Words (codes "have") ∷ Number shortage.have ∷ []
 refusal_parts (Arrays fault) = array_parts fault
@@ -183,7 +182,6 @@ refusal_status FileMissing = 8
 refusal_status (TooLong kind) = kind_status kind
 refusal_status (Parse fault) = 3
 refusal_status (Check fault) = 3
-refusal_status Form = 3
 refusal_status (Scratchpad shortage) = 5
 refusal_status (Arrays fault) = 4
 refusal_status (Fit fault) = 4

@@ -1,13 +1,22 @@
 -- Inner: which requests are of which command, and the words of numbers.
 use Rattle.std.specs.Prelude.{◌≡◌, ℕ, List, decimal, Some, None}
 use Rattle.venice_run.specs.declared.request.Request.{Request}
-use Rattle.venice_run.specs.declared.request.Request.TheVariants.{Run, Eval, Check, Explain, Exec, Asm, Disasm}
+use Rattle.venice_run.specs.declared.request.Request.TheVariants.{Run, Build, Eval, Check, Explain, Exec, Asm, Disasm}
 use Rattle.venice_run.specs.declared.request.Resources.{Resources}
 use Rattle.venice_run.specs.Words.{AreInRange}
 
-abbrev pub IsRun : Request → Type 0
-IsRun (Run program inputs image lanes spad) = Unit {0}
-IsRun _ = ⊥
+-- `run` without GRANTS, and with it
+abbrev pub IsFreeRun : Request → Type 0
+IsFreeRun (Run program inputs image lanes spad None) = Unit {0}
+IsFreeRun _ = ⊥
+
+abbrev pub IsGrantedRun : Request → Type 0
+IsGrantedRun (Run program inputs image lanes spad (Some grants)) = Unit {0}
+IsGrantedRun _ = ⊥
+
+abbrev pub IsBuild : Request → Type 0
+IsBuild (Build program image spad) = Unit {0}
+IsBuild _ = ⊥
 
 abbrev pub IsEval : Request → Type 0
 IsEval (Eval program inputs) = Unit {0}

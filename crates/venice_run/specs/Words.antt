@@ -7,7 +7,7 @@ use Rattle.ven_base.specs.Limits.{cell_limit}
 use Rattle.venice_run.specs.declared.command.Command.{Command}
 use Rattle.venice_run.specs.declared.command.Command.TheVariants as command
 use Rattle.venice_run.specs.declared.request.Request.{Request}
-use Rattle.venice_run.specs.declared.request.Request.TheVariants.{Run, Eval, Check, Explain, Exec, Asm, Disasm}
+use Rattle.venice_run.specs.declared.request.Request.TheVariants.{Run, Build, Eval, Check, Explain, Exec, Asm, Disasm}
 use Rattle.venice_run.specs.declared.request.Resources.{Resources}
 use Rattle.venice_machine.specs.Run.{step_limit}
 
@@ -31,8 +31,10 @@ pub record AreInRange (resources : Resources) : Type 0 where
 
 -- the words of each request: names of files as they are, numbers as they are printed
 abbrev pub words_of : Request → List (List ℕ)
-words_of (Run program inputs image lanes spad) =
-    codes "run" ∷ program.now ∷ inputs.now ∷ image.now ∷ decimal lanes ∷ decimal spad ∷ []
+words_of (Run program inputs image lanes spad grants) =
+    codes "run" ∷ program.now ∷ inputs.now ∷ image.now ∷ decimal lanes ∷ decimal spad
+    ∷ option_to_list (option_map (λ name. name.now) grants)
+words_of (Build program image spad) = codes "build" ∷ program.now ∷ image.now ∷ decimal spad ∷ []
 words_of (Eval program inputs) = codes "eval" ∷ program.now ∷ inputs.now ∷ []
 words_of (Check program spad) = codes "check" ∷ program.now ∷ decimal spad ∷ []
 words_of (Explain program) = codes "explain" ∷ program.now ∷ []
@@ -44,7 +46,8 @@ words_of (Disasm image) = codes "disasm" ∷ image.now ∷ []
 
 -- the numbers of each request that are in range
 abbrev pub IsInRange : Request → Type 0
-IsInRange (Run program inputs image lanes spad) = IsUpTo most_lanes lanes × IsUpTo cell_limit spad
+IsInRange (Run program inputs image lanes spad grants) = IsUpTo most_lanes lanes × IsUpTo cell_limit spad
+IsInRange (Build program image spad) = IsUpTo cell_limit spad
 IsInRange (Check program spad) = IsUpTo cell_limit spad
 IsInRange (Exec image inputs resources grants) = AreInRange resources
 IsInRange _ = Unit {0}
@@ -56,7 +59,8 @@ pub record Spells (words : List (List ℕ)) (request : Request) : Type 0 where
 
 -- the command of each request
 abbrev pub command_of : Request → Command
-command_of (Run program inputs image lanes spad) = command.Run lanes spad
+command_of (Run program inputs image lanes spad grants) = command.Run lanes spad (is_some grants)
+command_of (Build program image spad) = command.Build spad
 command_of (Eval program inputs) = command.Eval
 command_of (Check program spad) = command.Check spad
 command_of (Explain program) = command.Explain

@@ -14,8 +14,7 @@ use crate::answer::Answer;
 use crate::ending::{Ending, Fault};
 use crate::line::{Part, push_line};
 use crate::output::push_heading;
-use crate::plan::{need_room, split_program};
-use crate::programs::read_program;
+use crate::plan::read_plan;
 use pass_plan::{Pass, PassKind, bound, need, need_laws, tile, tiles};
 use shape_check::{CheckedStmt, StmtKind};
 use std::alloc::{AllocError, Global};
@@ -33,10 +32,13 @@ pub(crate) fn check<'a, F: Files>(
     ensures answer { check_lem (F.behaviour (F.state files.old).content) program.now spad (as_stage answer_of result) }
     ensures only { OnlyLoads (F.state files.old) (F.state files.new) (IsErrOf result (Ending.Failed Fault.File)) }
 {
-    let checked = read_program(alloc, files, program)?;
-    let split = split_program(alloc, &checked)?;
-    need_room(need(&split.passes), spad)?;
-    print_plan(alloc, checked.stmts.as_slice(), &split.passes, spad)
+    let plan = read_plan(alloc, files, program, spad)?;
+    print_plan(
+        alloc,
+        plan.program.stmts.as_slice(),
+        &plan.split.passes,
+        spad,
+    )
 }
 
 fn print_plan<'a>(

@@ -9,9 +9,15 @@ use crate::request::request_of;
 /// their places.
 #[derive(Clone, Copy)]
 pub enum Command {
-    /// `run PROGRAM INPUTS IMAGE LANES SPAD`: 1 to 4 lanes, a scratchpad of 1 to 1,048,576 bytes.
+    /// `run PROGRAM INPUTS IMAGE LANES SPAD [GRANTS]`: 1 to 4 lanes, a scratchpad of 1 to 1,048,576 bytes; `grants` says
+    /// whether GRANTS is there.
     Run {
         lanes: u32,
+        spad: u32,
+        grants: bool,
+    },
+    /// `build PROGRAM IMAGE SPAD`: a scratchpad of 1 to 1,048,576 bytes.
+    Build {
         spad: u32,
     },
     /// `eval PROGRAM INPUTS`.

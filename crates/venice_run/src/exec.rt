@@ -72,7 +72,7 @@ fn fed_machine<F: Files>(
 }
 
 /// The machine of the image with these arrays in memory, where they fit its inputs.
-fn make_machine(
+pub(crate) fn make_machine(
     alloc: Global,
     image: Image,
     resources: Resources,
@@ -111,7 +111,11 @@ fn print_run<'a>(
 }
 
 /// The outputs as the machine's memory holds them, and the counts.
-fn run_text(alloc: Global, machine: &Machine, counts: Counts) -> Result<Vec<u8>, AllocError>
+pub(crate) fn run_text(
+    alloc: Global,
+    machine: &Machine,
+    counts: Counts,
+) -> Result<Vec<u8>, AllocError>
     ensures { (state : State) → Shows machine.now state → counts ≡ counts_of state →
         IfOk result (λ text. text.items ≡ run_text_lem machine.now.setup.table state) }
 {

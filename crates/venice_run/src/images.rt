@@ -27,7 +27,7 @@ pub(crate) fn load_image<F: Files>(
 }
 
 /// The image that the bytes spell.
-fn image_of_bytes(alloc: Global, bytes: &[u8]) -> Result<Image, Ending>
+pub(crate) fn image_of_bytes(alloc: Global, bytes: &[u8]) -> Result<Image, Ending>
     requires { length bytes.now ≤ file_limit }
     ensures { image_in bytes.now (as_stage (λ image. image) result) }
 {

@@ -2,15 +2,19 @@
 
 ghost use Rattle.std.specs.Prelude.{◌≡◌, ◌++◌, ◌<◌, ◌^◌, length, All, IfOk, OnOk, IsErrOf};
 ghost use Rattle.ven_io.specs.Files.{OnlyLoads};
+ghost use Rattle.ven_base.specs.Pairs.{ArePairs};
+ghost use Rattle.array_file.specs.Fitting.{Fits};
 ghost use Rattle.shape_check.specs.Checked.{program_of, statement_of, IsWhole};
 ghost use Rattle.shape_check.specs.Meaning.{FitInputs};
-ghost use Rattle.venice_run.specs.Inputs.{input_entry, input_table as input_table_lem, fitting, arrays_in, arrays_under, inputs_under};
+ghost use Rattle.expr_split.specs.DeclaredTable.{input_entry, input_table as input_table_lem};
+ghost use Rattle.venice_run.specs.Inputs.{fitting, arrays_in, arrays_under, inputs_under};
 ghost use Rattle.venice_run.specs.Stage.{as_stage};
 
 use crate::ending::{Ending, Fault};
 use crate::reading::load_within;
 use crate::refusal::{Kind, Refusal};
 use array_file::{fit, read_arrays};
+use good_images::table_fits;
 use shape_check::{Checked, CheckedStmt, StmtKind};
 use std::alloc::{AllocError, Global};
 use ven_base::{Arrays, Entry};
@@ -26,7 +30,9 @@ pub(crate) fn read_inputs<F: Files>(
     ensures read { inputs_under (F.behaviour (F.state files.old).content) name.now
         (input_table_lem (program_of program.now)) (as_stage (λ arrays. arrays) result) }
     ensures only { OnlyLoads (F.state files.old) (F.state files.new) (IsErrOf result (Ending.Failed Fault.File)) }
-    ensures fit { IfOk result (FitInputs (program_of program.now)) }
+    ensures fits { IfOk result (λ arrays. Fits arrays (input_table_lem (program_of program.now))) }
+    ensures pairs { IfOk result ArePairs }
+    ensures inputs { IfOk result (FitInputs (program_of program.now)) }
 {
     let arrays = load_arrays(alloc, files, name)?;
     fit_inputs(alloc, arrays, program)
@@ -57,8 +63,11 @@ fn arrays_of_text(alloc: Global, text: &[u8]) -> Result<Arrays, Ending>
 /// These arrays, where they fit the program's inputs.
 fn fit_inputs(alloc: Global, arrays: Arrays, program: &Checked) -> Result<Arrays, Ending>
     ensures fitted { fitting (input_table_lem (program_of program.now)) arrays (as_stage (λ fitted. fitted) result) }
-    ensures fit { IfOk result (FitInputs (program_of program.now)) }
+    ensures fits { IfOk result (λ arrays. Fits arrays (input_table_lem (program_of program.now))) }
+    ensures pairs { IfOk result ArePairs }
+    ensures inputs { IfOk result (FitInputs (program_of program.now)) }
 {
+    table_fits();
     let table = input_table(alloc, program.stmts.as_slice())?;
     match fit(&arrays, &table) {
         Ok(()) => Ok(arrays),

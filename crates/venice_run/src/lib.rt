@@ -20,9 +20,13 @@
 //!   after it, and the status is 9; or memory ran out between two lines, with status 10. Where there is no memory for a
 //!   line, the line of memory that ran out is put in its place.
 //!
-//! The commands are `eval`, `check`, `explain`, `run`, `exec`, `asm` and `disasm`. Each has its stages, in the order of
-//! its refusals, as a definition in the file of its name in `specs`; `Programs`, `Inputs`, `Plan`, `Images` and
-//! `Grants` there have the stages that commands share. `asm` is the one that saves.
+//! The commands are `run`, `build`, `eval`, `check`, `explain`, `exec`, `asm` and `disasm`. Each has its stages, in the
+//! order of its refusals, as a definition in the file of its name in `specs`; `Programs`, `Plan`, `Inputs`, `Compiled`,
+//! `Images` and `Grants` there have the stages that commands share. `run`, `build` and `asm` save.
+//!
+//! What `run` and `build` save is the image of the program: it is `Good` for it (good_images, specs/Good.antt), and the
+//! one that the program and SPAD have. `run` reads the saved bytes back and runs what it has read; its text is what the
+//! program means, and the steps and cycles of that image's run on the inputs, lanes, scratchpad and grants.
 //!
 //! Commands only read (`OnlyLoads`) and answer an `Answer`: a save, a text, and the refusal that the text ends in,
 //! where it ends in one. docs/ARCHITECTURE.md says how a command is added.
@@ -33,22 +37,20 @@
 //! status 15 is not the top call's).
 //!
 //! Beside it: `read_words` gives the command that the words spell, and none exactly where they spell none.
-//! `Ending::status`, `Ending::line` and `Refusal::status` have each status and line. `one_tile` is the list of nine
-//! issues that adds two arrays of up to 2,048 bytes, and `one_tile_adds` says that done in order it leads from every
-//! store that holds the two arrays to one that has the wrapped sums at their place and every other byte of memory as it
-//! was, and to no other. That `run` goes by this list no contract of `venice` says; only the inner ones do.
+//! `Ending::status`, `Ending::line` and `Refusal::status` have each status and line. `compile` is the image of a checked
+//! program, good for it, or says that the scratchpad holds less than its need.
 #![tactic(auto)]
 
-mod addition;
 mod answer;
 mod asm;
+mod build;
 mod check;
 mod command;
+mod compiling;
 mod disasm;
 mod ending;
 mod eval;
 mod exec;
-mod executor;
 mod explain;
 mod grants;
 mod images;
@@ -63,13 +65,11 @@ mod reading;
 mod refusal;
 mod request;
 mod run;
-mod sums;
-mod tile;
 mod top;
 
 pub use command::{Command, read_words};
+pub use compiling::{CompileFault, compile};
 pub use ending::{Ending, Fault};
 pub use laws::{lines_are_the_text, one_answer, promise_is_complete};
 pub use refusal::{Kind, Refusal, Shortage};
-pub use tile::{one_tile, one_tile_adds};
 pub use top::venice;

@@ -45,7 +45,6 @@ pub(crate) fn refusal_line(alloc: Global, refusal: Refusal) -> Result<Vec<u8>, A
         }
         Refusal::Parse(fault) => parse_line(alloc, fault),
         Refusal::Check(fault) => check_line(alloc, fault),
-        Refusal::Form => line_with(alloc, &[Part::Words(b"program form")]),
         Refusal::Scratchpad(shortage) => scratchpad_line(alloc, shortage),
         Refusal::Arrays(fault) => array_line(alloc, fault),
         Refusal::Fit(fault) => fit_line(alloc, fault),

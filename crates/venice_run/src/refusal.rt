@@ -48,8 +48,6 @@ pub enum Refusal {
     Parse(ParseFault),
     /// The program breaks this rule.
     Check(CheckFault),
-    /// The program isn't of the one form that `run` can do.
-    Form,
     /// The scratchpad has fewer bytes than the program or the image needs.
     Scratchpad(Shortage),
     /// The array file has this fault.
@@ -101,7 +99,7 @@ impl Refusal {
             Refusal::Usage => 2,
             Refusal::FileMissing => 8,
             Refusal::TooLong(kind) => kind.status(),
-            Refusal::Parse(_) | Refusal::Check(_) | Refusal::Form => 3,
+            Refusal::Parse(_) | Refusal::Check(_) => 3,
             Refusal::Scratchpad(_) => 5,
             Refusal::Arrays(_) | Refusal::Fit(_) | Refusal::Grants(_) => 4,
             Refusal::Image(_) | Refusal::Text(_) => 6,

@@ -2,7 +2,7 @@
 
 ghost use Rattle.std.specs.Prelude.{◌≡◌, ◌↔◌, ℕ, decimal, IsTrue, MatchOption};
 ghost use Rattle.venice_run.specs.Words.{texts_of, Spells, IsUpTo, command_of};
-ghost use Rattle.venice_run.specs.Requests.{IsRun, IsEval, IsCheck, IsExplain, IsFreeExec, IsGrantedExec, IsAsm, IsDisasm, SpellResources};
+ghost use Rattle.venice_run.specs.Requests.{IsFreeRun, IsGrantedRun, IsBuild, IsEval, IsCheck, IsExplain, IsFreeExec, IsGrantedExec, IsAsm, IsDisasm, SpellResources};
 
 use crate::command::Command;
 use itoa::Buffer;
@@ -13,6 +13,13 @@ const MOST_LANES: u32 = 4;
 
 /// The most steps that a run may be allowed.
 const MOST_STEPS: u64 = 1_099_511_627_776;
+
+/// The lanes and the bytes of scratchpad that a run has.
+#[derive(Clone, Copy)]
+pub(crate) struct Room {
+    pub lanes: u32,
+    pub spad: u32,
+}
 
 /// What a run may use: lanes, bytes of scratchpad, and steps.
 #[derive(Clone, Copy)]
@@ -26,12 +33,19 @@ pub(crate) struct Resources {
 /// have them; `lanes`, `spad` and `budget` are in the range of the command line.
 #[derive(Clone, Copy)]
 pub(crate) enum Request<'a> {
-    /// `run PROGRAM INPUTS IMAGE LANES SPAD`.
+    /// `run PROGRAM INPUTS IMAGE LANES SPAD [GRANTS]`.
     Run {
         program: &'a str,
         inputs: &'a str,
         image: &'a str,
         lanes: u32,
+        spad: u32,
+        grants: Option<&'a str>,
+    },
+    /// `build PROGRAM IMAGE SPAD`.
+    Build {
+        program: &'a str,
+        image: &'a str,
         spad: u32,
     },
     /// `eval PROGRAM INPUTS`.
@@ -72,7 +86,17 @@ impl Request<'_> {
         ensures { result ≡ command_of self.entry }
     {
         match self {
-            Request::Run { lanes, spad, .. } => Command::Run { lanes, spad },
+            Request::Run {
+                lanes,
+                spad,
+                grants,
+                ..
+            } => Command::Run {
+                lanes,
+                spad,
+                grants: grants.is_some(),
+            },
+            Request::Build { spad, .. } => Command::Build { spad },
             Request::Eval { .. } => Command::Eval,
             Request::Check { spad, .. } => Command::Check { spad },
             Request::Explain { .. } => Command::Explain,
@@ -97,7 +121,13 @@ pub(crate) fn request_of(words: &[String]) -> Option<Request<'_>>
     ensures { MatchOption result ((request : Request) → ¬ Spells (texts_of words.now) request)
         (Spells (texts_of words.now)) }
 {
-    if let Some(request) = run_request(words) {
+    if let Some(request) = free_run_request(words) {
+        return Some(request);
+    }
+    if let Some(request) = granted_run_request(words) {
+        return Some(request);
+    }
+    if let Some(request) = build_request(words) {
         return Some(request);
     }
     if let Some(request) = eval_request(words) {
@@ -121,8 +151,9 @@ pub(crate) fn request_of(words: &[String]) -> Option<Request<'_>>
     disasm_request(words)
 }
 
-fn run_request(words: &[String]) -> Option<Request<'_>>
-    ensures { MatchOption result ((request : Request) → IsRun request → ¬ Spells (texts_of words.now) request)
+/// `run` without GRANTS.
+fn free_run_request(words: &[String]) -> Option<Request<'_>>
+    ensures { MatchOption result ((request : Request) → IsFreeRun request → ¬ Spells (texts_of words.now) request)
         (Spells (texts_of words.now)) }
 {
     let [word, program, inputs, image, lanes, spad] = words else {
@@ -138,6 +169,48 @@ fn run_request(words: &[String]) -> Option<Request<'_>>
         inputs,
         image,
         lanes,
+        spad,
+        grants: None,
+    })
+}
+
+/// `run` with GRANTS.
+fn granted_run_request(words: &[String]) -> Option<Request<'_>>
+    ensures { MatchOption result ((request : Request) → IsGrantedRun request → ¬ Spells (texts_of words.now) request)
+        (Spells (texts_of words.now)) }
+{
+    let [word, program, inputs, image, lanes, spad, grants] = words else {
+        return None;
+    };
+    if word.as_str() != "run" {
+        return None;
+    }
+    let lanes = number_up_to(MOST_LANES, lanes)?;
+    let spad = number_up_to(CELL_LIMIT, spad)?;
+    Some(Request::Run {
+        program,
+        inputs,
+        image,
+        lanes,
+        spad,
+        grants: Some(grants),
+    })
+}
+
+fn build_request(words: &[String]) -> Option<Request<'_>>
+    ensures { MatchOption result ((request : Request) → IsBuild request → ¬ Spells (texts_of words.now) request)
+        (Spells (texts_of words.now)) }
+{
+    let [word, program, image, spad] = words else {
+        return None;
+    };
+    if word.as_str() != "build" {
+        return None;
+    }
+    let spad = number_up_to(CELL_LIMIT, spad)?;
+    Some(Request::Build {
+        program,
+        image,
         spad,
     })
 }

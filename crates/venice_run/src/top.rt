@@ -11,6 +11,7 @@ ghost use Rattle.venice_run.specs.Words.{texts_of, IsInRange};
 
 use crate::answer::{Answer, Save};
 use crate::asm::asm;
+use crate::build::build;
 use crate::check::check;
 use crate::disasm::disasm;
 use crate::ending::{Ending, Fault, MEMORY_STATUS};
@@ -19,7 +20,7 @@ use crate::exec::exec;
 use crate::explain::explain;
 use crate::lines::{put_line, put_text};
 use crate::refusal::Refusal;
-use crate::request::{Request, request_of};
+use crate::request::{Request, Room, request_of};
 use crate::run::run;
 use std::alloc::Global;
 use ven_io::{Files, OutFault, Sink};
@@ -85,9 +86,19 @@ fn comes_to<'a, F: Files>(
         Request::Run {
             program,
             inputs,
+            image,
+            lanes,
             spad,
-            ..
-        } => run(alloc, files, program, inputs, spad),
+            grants,
+        } => {
+            let room = Room { lanes, spad };
+            run(alloc, files, program, inputs, image, room, grants)
+        }
+        Request::Build {
+            program,
+            image,
+            spad,
+        } => build(alloc, files, program, image, spad),
         Request::Eval { program, inputs } => eval(alloc, files, program, inputs),
         Request::Check { program, spad } => check(alloc, files, program, spad),
         Request::Explain { program } => explain(alloc, files, program),

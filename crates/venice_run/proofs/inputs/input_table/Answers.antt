@@ -1,4 +1,4 @@
-use Rattle.venice_run.proofs.Fitted.{next_entry, last_entry}
+use Rattle.venice_run.proofs.Tables.{next_entry, last_entry}
 use Rattle.venice_run.proofs.inputs.input_table.Goals as goal
 
 pub loop-stmt-preserved : goal.loop-stmt-preserved

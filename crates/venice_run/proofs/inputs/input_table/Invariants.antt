@@ -1,6 +1,6 @@
 use Rattle.std.proofs.Common.{◌≡◌, ◌++◌, drop}
 use Rattle.shape_check.specs.Checked.{program_of}
-use Rattle.venice_run.specs.Inputs.{input_table}
+use Rattle.expr_split.specs.DeclaredTable.{input_table}
 use Rattle.venice_run.proofs.inputs.input_table.Given as goal
 
 abbrev pub invariant-loop-stmt : goal.invariant-loop-stmt

@@ -1,7 +1,8 @@
 use Rattle.std.proofs.Common.{subst}
 use Rattle.ven_base.specs.Pairs.{Pairs}
 use Rattle.shape_check.specs.Checked.{program_of}
-use Rattle.venice_run.specs.Inputs.{input_table, fitting, inputs_under}
+use Rattle.expr_split.specs.DeclaredTable.{input_table}
+use Rattle.venice_run.specs.Inputs.{fitting, inputs_under}
 use Rattle.venice_run.specs.Stage.{Goes, as_stage}
 use Rattle.venice_run.proofs.NoFile.{counts_none, misfit_no_file}
 use Rattle.venice_run.proofs.Stages.{ends}

@@ -20,3 +20,6 @@ returns-in-Disasm-clause-answer g c = rw c.in-Disasm.is c.disasm.ensures.answer
 
 pub returns-in-Explain-clause-answer : goal.returns-in-Explain-clause-answer
 returns-in-Explain-clause-answer g c = rw c.in-Explain.is c.explain.ensures.answer
+
+pub returns-in-Build-clause-answer : goal.returns-in-Build-clause-answer
+returns-in-Build-clause-answer g c = rw c.in-Build.is c.build.ensures.answer
