@@ -107,14 +107,14 @@ module _ (current : Current) (under_way : IsUnderWay current) where
   count_fits = omega (arith, under_way.in_row)
 
   module _ (direction : Direction) (size : Size) (in_range : IsInRange (Reads (issue_of direction current.work)) (Writes (issue_of direction current.work)) size) where
-    cells_below : LiesBelow (cells_of current.work) size.cells
+    pub cells_below : LiesBelow (cells_of current.work) size.cells
     cells_below = below direction in_range
       where
         below : (direction : Direction) → IsInRange (Reads (issue_of direction current.work)) (Writes (issue_of direction current.work)) size → LiesBelow (cells_of current.work) size.cells
         below IntoCells in_range p covers = in_range.has_writes (in_cells p) covers
         below IntoMemory in_range p covers = in_range.has_reads (in_cells p) covers
 
-    memory_below : LiesBelow (memory_of current.work) size.memory
+    pub memory_below : LiesBelow (memory_of current.work) size.memory
     memory_below = below direction in_range
       where
         below : (direction : Direction) → IsInRange (Reads (issue_of direction current.work)) (Writes (issue_of direction current.work)) size → LiesBelow (memory_of current.work) size.memory
@@ -157,7 +157,7 @@ module _ (current : Current) (under_way : IsUnderWay current) where
 abbrev pub job_with : DmaWork → ℕ → Job DmaWork Progress
 job_with work done = record { work = work; progress = record { done = done; sum = pos 0 } }
 
-next_is : (direction : Direction) (current : Current) (store : Store) → next_job (channel_course direction) (job_of current) store ≡ job_with current.work (done_of current + 1)
+pub next_is : (direction : Direction) (current : Current) (store : Store) → next_job (channel_course direction) (job_of current) store ≡ job_with current.work (done_of current + 1)
 next_is IntoCells current store = refl
 next_is IntoMemory current store = refl
 

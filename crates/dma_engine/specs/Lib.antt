@@ -3,3 +3,4 @@ pub mod Transfers
 pub mod Current
 pub mod Channel
 pub mod Laws
+pub mod Rows

@@ -126,6 +126,20 @@ impl<D: Directed> Unit for Channel<D> {
         }
         true
     }
+
+    fn spare(&self) -> u64 {
+        match &self.first {
+            Some(first) => first.spare(),
+            None => u64::MAX,
+        }
+    }
+
+    fn beats(&mut self, count: u64, cells: &mut Spad, memory: &mut MainMem) {
+        let Some(first) = &mut self.first else {
+            return;
+        };
+        first.beats::<D>(count, cells, memory);
+    }
 }
 
 impl<D: Directed> Overtaking for Channel<D> {

@@ -46,7 +46,7 @@ impl Current {
     }
 
     /// The cell of the next byte.
-    fn cell(&self) -> u32
+    pub(crate) fn cell(&self) -> u32
         requires { place_in (cells_of self.now.work) self.now.row self.now.column < 2 ^ 32 }
         ensures { result ≡ place_in (cells_of self.now.work) self.now.row self.now.column }
     {
@@ -54,7 +54,7 @@ impl Current {
     }
 
     /// The place of the next byte in memory.
-    fn place(&self) -> u32
+    pub(crate) fn place(&self) -> u32
         requires { place_in (memory_of self.now.work) self.now.row self.now.column < 2 ^ 32 }
         ensures { result ≡ place_in (memory_of self.now.work) self.now.row self.now.column }
     {

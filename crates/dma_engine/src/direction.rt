@@ -1,6 +1,6 @@
 //! The two directions of a transfer.
 ghost use Rattle.std.specs.Prelude.{◌≡◌, ◌+◌, ◌≤◌, length};
-ghost use Rattle.ven_base.specs.Store.{store_of};
+ghost use Rattle.ven_base.specs.Store.{store_of, store_size};
 ghost use Rattle.dma_engine.specs.Current.{moved};
 
 use spad_store::{MainMem, Spad};
@@ -99,5 +99,25 @@ fn pass(
             cells.get_bytes(cell, bytes);
             memory.put_bytes(place, bytes);
         }
+    }
+}
+
+/// Moves so many bytes between the cells from `cell` on and memory from `place` on, by one move.
+pub(crate) fn move_block(
+    direction: Direction,
+    cells: &mut Spad,
+    memory: &mut MainMem,
+    cell: u32,
+    place: u32,
+    count: u32,
+)
+    requires in_cells { cell + count ≤ length cells.old }
+    requires in_memory { place + count ≤ length memory.old }
+    ensures store { store_of cells.new memory.new ≡ moved direction cell place count (store_of cells.old memory.old) }
+    ensures same_size { store_size (store_of cells.new memory.new) ≡ store_size (store_of cells.old memory.old) }
+{
+    match direction {
+        Direction::IntoCells => cells.put_bytes(cell, memory.part(place, count)),
+        Direction::IntoMemory => memory.put_bytes(place, cells.part(cell, count)),
     }
 }

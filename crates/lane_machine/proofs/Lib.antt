@@ -11,3 +11,4 @@ pub mod Writing
 pub mod Beats
 pub mod Kept
 pub mod Finishing
+pub mod ToGo

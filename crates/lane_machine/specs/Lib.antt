@@ -6,3 +6,4 @@ pub mod Current
 pub mod State
 pub mod Lanes
 pub mod Laws
+pub mod ToGo

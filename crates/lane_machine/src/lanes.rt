@@ -11,6 +11,7 @@ ghost use Rattle.venice_isa.specs.Beat.{not_begun};
 ghost use Rattle.lane_machine.specs.State.{lane_course};
 ghost use Rattle.lane_machine.specs.Lanes.{IsFront, progress_in};
 
+use crate::at_once::beats;
 use crate::current::Current;
 use crate::group::beat;
 use circular_buffer::HeapCircularBuffer;
@@ -174,5 +175,22 @@ impl Unit for Lanes {
             self.current = begin_first(&self.queue, self.lanes);
         }
         true
+    }
+
+    fn spare(&self) -> u64 {
+        let left = self.first_beats();
+        if left == 0 { u64::MAX } else { left - 1 }
+    }
+
+    fn beats(&mut self, count: u64, cells: &mut Spad, _memory: &mut MainMem) {
+        let Some(work) = self.queue.front() else {
+            return;
+        };
+        let Some(current) = &mut self.current else {
+            return;
+        };
+        // A place in the cells is a number of 32 bits.
+        let _ = cells.len();
+        beats(self.lanes, work, current, count, cells);
     }
 }

@@ -7,6 +7,7 @@
 //! number of lanes. docs/MACHINE.md says it in plain words.
 #![tactic(auto)]
 
+mod at_once;
 mod current;
 mod element;
 mod flags;

@@ -67,6 +67,15 @@ impl MainMem {
         out.copy_from_slice(&self.bytes[at..at + out.len()]);
     }
 
+    /// The bytes from `at` on, so many, as they stand. Condition: they lie in the memory.
+    pub fn part(&self, at: u32, count: u32) -> &[u8]
+        requires { at + count ≤ length self.now }
+        ensures { result.now ≡ take count (drop at self.now) }
+    {
+        let at = at as usize;
+        &self.bytes[at..at + count as usize]
+    }
+
     /// Puts bytes at the places from `at` on, and changes no other. Condition: they lie in the memory.
     pub fn put_bytes(&mut self, at: u32, bytes: &[u8])
         requires { at + length bytes.now ≤ length self.old }

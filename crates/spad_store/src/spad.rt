@@ -87,6 +87,15 @@ impl Spad {
         out.copy_from_slice(&self.bytes[at..at + out.len()]);
     }
 
+    /// The bytes of the cells from `at` on, so many, as they stand. Condition: they lie in the scratchpad.
+    pub fn part(&self, at: u32, count: u32) -> &[u8]
+        requires { at + count ≤ length self.now }
+        ensures { result.now ≡ bytes_from self.now at count }
+    {
+        let at = at as usize;
+        &self.bytes[at..at + count as usize]
+    }
+
     /// Puts bytes into the cells from `at` on, whose flags are then clear, and changes no other. Condition: they lie in
     /// the scratchpad.
     pub fn put_bytes(&mut self, at: u32, bytes: &[u8])

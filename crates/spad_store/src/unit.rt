@@ -3,6 +3,7 @@
 ghost use Rattle.std.specs.Prelude.{◌≡◌, ℕ, ◌<◌, ◌↔◌, List, [], ◌∷◌, ◌++◌, length, slice_get, All, Some, IsTrue, IsFalse, IsErr, OnOk, OnErr, IfErr};
 ghost use Rattle.ven_base.specs.Store.{Place, Store, Size, store_of, store_size, IsInRange, AgreeOn};
 ghost use Rattle.ven_base.specs.Job.{Job, Course, IsReady, KeepsToFootprint, new_job, works_of, jobs_beaten, store_beaten};
+ghost use Rattle.ven_base.specs.Beats.{HasMore, jobs_after_beats, store_after_beats};
 ghost use Rattle.spad_store.specs.Queue.{IsQueue};
 
 use crate::{MainMem, Spad};
@@ -83,6 +84,25 @@ pub trait Unit {
             ≡ store_beaten (course (setting self.old)) 0 (jobs self.old) (store_of cells.old memory.old) }
         ensures jobs { jobs self.new
             ≡ jobs_beaten (course (setting self.old)) 0 (jobs self.old) (store_of cells.old memory.old) }
+        ensures same_setting { setting self.new ≡ setting self.old };
+
+    /// How many beats of the queue's first work may be made at once: all that it has left but the last. Of an empty
+    /// queue any number.
+    fn spare(&self) -> u64
+        ensures { HasMore (course (setting self.now)) result (jobs self.now) };
+
+    /// Does so many beats of the queue's first work at once, none of them its last: what as many calls of `beat` do. Of
+    /// an empty queue nothing. Conditions: the work has more beats left, and the footprints of all works of the queue lie
+    /// in `cells` and `memory`.
+    fn beats(&mut self, count: u64, cells: &mut Spad, memory: &mut MainMem)
+        requires more { HasMore (course (setting self.old)) count (jobs self.old) }
+        requires inside { All (λ job.
+            IsInRange (reads job.work) (writes job.work) (store_size (store_of cells.old memory.old))) (jobs self.old) }
+
+        ensures store { store_of cells.new memory.new
+            ≡ store_after_beats (course (setting self.old)) count (jobs self.old) (store_of cells.old memory.old) }
+        ensures jobs { jobs self.new
+            ≡ jobs_after_beats (course (setting self.old)) count (jobs self.old) (store_of cells.old memory.old) }
         ensures same_setting { setting self.new ≡ setting self.old };
 
     /// A work that has counts begins with no beat done, and takes one at least.

@@ -45,33 +45,39 @@ moves_is Moves e = refl
 moves_is Halts e = cc
 moves_is (Passes issue) e = cc
 
-module _ (machine : MachineContents) (numbered : AllNumbered machine.queues) (most : ℕ) (going : machine.end ≡ None) (more : machine.steps < most)
-    (idle : is_idle (waiting_in None machine.queues) ≡ true) where
-  abbrev counted_machine : MachineContents
-  counted_machine = record machine { cycles = machine.cycles + 1 }
-
+-- a host whose instruction concerns it alone waits for nothing
+module _ (machine : MachineContents) (numbered : AllNumbered machine.queues) (most : ℕ) (host : HostState)
+    (moving : moves (deed machine.setup.code.instrs (host_of machine.host)) ≡ true) (on : host_of host ≡ next machine.setup.code.instrs (host_of machine.host)) where
   abbrev what : Deed
   what = deed machine.setup.code.instrs (host_of machine.host)
 
   abbrev waiting : Waiting
   waiting = waiting_in (wanted_by what) machine.queues
 
-  module _ (host : HostState) (moving : moves what ≡ true) (on : host_of host ≡ next machine.setup.code.instrs (host_of machine.host)) where
+  is_moved : step_of waiting what ≡ Moved
+  is_moved = ap (step_of waiting) (moves_is what moving)
+
+  moved_on : host_of host ≡ host_after waiting machine.setup.code.instrs (host_of machine.host)
+  moved_on = on ∙ sym (ap (λ d. cond (lets_go_on waiting d) (next machine.setup.code.instrs (host_of machine.host)) (host_of machine.host)) (moves_is what moving))
+
+  pub move_shown : (new : MachineContents) → new ≡ counted most (record machine { host = host }) → (state : State) → Shows machine state → Shows new (after_chance machine.setup most false TheHost state)
+  move_shown new is state shows = moved_shown machine numbered most state shows is_moved host moved_on new is
+
+module _ (machine : MachineContents) (numbered : AllNumbered machine.queues) (most : ℕ) (going : machine.end ≡ None) (more : machine.steps < most)
+    (idle : is_idle (waiting_in None machine.queues) ≡ true) where
+  abbrev counted_machine : MachineContents
+  counted_machine = record machine { cycles = machine.cycles + 1 }
+
+  module _ (host : HostState) (moving : moves (deed machine.setup.code.instrs (host_of machine.host)) ≡ true) (on : host_of host ≡ next machine.setup.code.instrs (host_of machine.host)) where
     abbrev moved : MachineContents
     moved = counted most (record counted_machine { host = host })
-
-    is_moved : step_of waiting what ≡ Moved
-    is_moved = ap (step_of waiting) (moves_is what moving)
-
-    moved_on : host_of host ≡ host_after waiting machine.setup.code.instrs (host_of machine.host)
-    moved_on = on ∙ sym (ap (λ d. cond (lets_go_on waiting d) (next machine.setup.code.instrs (host_of machine.host)) (host_of machine.host)) (moves_is what moving))
 
     turns_shown : (state : State) → Shows counted_machine state → Shows moved (after_turns machine.setup most all_units in_order state)
     turns_shown state shows =
         let after = after_turn machine.setup most all_units TheHost state in
         let shown : Shows moved after =
         subst (Shows moved) (sym (host_turn machine.setup most state (shows.end ∙ going)))
-        (moved_shown counted_machine numbered most state shows is_moved host moved_on moved refl) in
+        (move_shown counted_machine numbered most host moving on moved refl state shows) in
         let parts = both_true _ _ idle in
         let others = both_true _ _ parts.0 in
         subst (Shows moved)

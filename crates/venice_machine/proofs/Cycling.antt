@@ -177,8 +177,8 @@ module _ (setup : Setup) (most : ℕ) where
   split zero m = ap (λ n. replicate n all_units) (omega arith)
   split (suc k) m = let next : suc k + m ≡ suc (k + m) = omega arith in ap (λ n. replicate n all_units) next ∙ ap (λ more. all_units ∷ more) (split k m)
 
-  pub full_more : (k : ℕ) (state : State) → after_cycles setup most (replicate (k + 1) all_units) state ≡ after_cycle setup most all_units (after_cycles setup most (replicate k all_units) state)
-  full_more k state = ap (λ grants. after_cycles setup most grants state) (split k 1) ∙ cycles_more setup most (replicate k all_units) (replicate 1 all_units) state
+  pub many_more : (k n : ℕ) (state : State) → after_cycles setup most (replicate (k + n) all_units) state ≡ after_cycles setup most (replicate n all_units) (after_cycles setup most (replicate k all_units) state)
+  many_more k n state = ap (λ grants. after_cycles setup most grants state) (split k n) ∙ cycles_more setup most (replicate k all_units) (replicate n all_units) state
 
   pub ended_rest : (k n : ℕ) (state : State) (end : End) → k ≤ n → (after_cycles setup most (replicate k all_units) state).end ≡ Some end
       → after_cycles setup most (replicate n all_units) state ≡ after_cycles setup most (replicate k all_units) state

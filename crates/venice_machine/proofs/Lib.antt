@@ -10,6 +10,8 @@ pub mod Hosting
 pub mod Runs
 pub mod Cycling
 pub mod Alone
+pub mod Beaten
+pub mod Together
 pub mod Canonical
 pub mod Stretches
 pub mod Inputs

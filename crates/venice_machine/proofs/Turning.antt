@@ -207,7 +207,7 @@ module _ (machine : MachineContents) (numbered : AllNumbered machine.queues) (k 
 
 -- ---- a queue without works
 
-none_left : {Work : Type 0} (course : Course Work Progress) (k : ℕ) (numbers : List ℕ) (jobs : List (Job Work Progress)) (store : Store) → length jobs ≡ 0 → length numbers ≡ length jobs
+pub none_left : {Work : Type 0} (course : Course Work Progress) (k : ℕ) (numbers : List ℕ) (jobs : List (Job Work Progress)) (store : Store) → length jobs ≡ 0 → length numbers ≡ length jobs
     → (works_after_beat course k (record { jobs = jobs; numbers = numbers }) store ≡ record { jobs = jobs; numbers = numbers }) × (store_beaten course k jobs store ≡ store)
 none_left course k [] [] store none same = (refl, refl)
 none_left course k (n ∷ numbers) [] store none same = absurd (omega (arith, same))

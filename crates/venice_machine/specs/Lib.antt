@@ -10,3 +10,4 @@ pub mod Answers
 pub mod Kept
 pub mod Working
 pub mod Inside
+pub mod AtOnce

@@ -17,11 +17,13 @@
 mod arrays;
 mod beat;
 mod grants;
+mod laws;
 mod machine;
 mod numbers;
 mod stop;
 mod works;
 
 pub use grants::{GRANT_LIMIT, GrantFault, Grants, read_grants};
+pub use laws::cycles_at_once;
 pub use machine::Machine;
 pub use stop::{Counts, Cycle, MakeFault, Stop};

@@ -1,12 +1,12 @@
 //! The machine.
-ghost use Rattle.std.specs.Prelude.{is_none, is_some, replicate, ◌+◌, ◌≡◌, ◌<◌, ◌≤◌, ◌^◌, ◌==◌, ◌&&◌, not, length, slice_get, Some, None, IfOk, IfErr, IsTrue, false};
+ghost use Rattle.std.specs.Prelude.{is_none, is_some, replicate, ◌+◌, ◌⊎◌, ◌≡◌, ◌<◌, ◌≤◌, ◌^◌, ◌==◌, ◌&&◌, not, length, slice_get, Some, None, IfOk, IfErr, IsTrue, false};
 ghost use Rattle.ven_base.specs.Job.{store_beaten};
 ghost use Rattle.venice_isa.specs.declared.issue.Issue.TheVariants.{Read, Write};
 ghost use Rattle.venice_isa.specs.Tests.{has_counts, is_in_range};
 ghost use Rattle.ven_base.specs.Store.{store_of, store_size};
 ghost use Rattle.venice_isa.specs.Host.{deed};
 ghost use Rattle.venice_isa.specs.HostState.{host_of};
-ghost use Rattle.host_core.specs.Step.{wanted_by};
+ghost use Rattle.host_core.specs.Step.{moves, wanted_by};
 ghost use Rattle.venice_isa.specs.Units.{is_work, overtakes, Lanes, ReadChannel, WriteChannel};
 ghost use Rattle.ven_base.specs.Limits.{cell_limit};
 ghost use Rattle.array_file.specs.Fitting.{Fits};
@@ -18,6 +18,7 @@ ghost use Rattle.venice_machine.specs.Units.{turn_bits, bits_of_turns, units_of,
 ghost use Rattle.venice_machine.specs.Machine.{Shows};
 ghost use Rattle.venice_machine.specs.Grants.{grant_limit};
 ghost use Rattle.venice_machine.specs.Answers.{counts_of, RunEnds, IsNoMachine};
+ghost use Rattle.venice_machine.specs.AtOnce.{busy_units, MayMakeMany};
 ghost use Rattle.venice_machine.specs.Kept.{AllNumbered, unit_course, works_after_beat, place_chosen, beat_of, waiting_in, hazard_of, stop_of, counted, HasRoom, IsHostAlone, after_chance, unit_bits};
 
 use crate::arrays;
@@ -49,6 +50,9 @@ const WRITES: u8 = 0x08;
 const SECOND_READ: u8 = 0x10;
 
 const SECOND_WRITE: u8 = 0x20;
+
+/// How many cycles at once are worth it.
+const LEAST_AT_ONCE: u64 = 4;
 
 /// The clocked machine with its code, its works, and its cells and memory (docs/MACHINE.md, "The machine"). Contracts
 /// see what it keeps, and say of each state that it shows what state it then shows.
@@ -224,12 +228,86 @@ impl Machine {
         ensures state { (state : State) → Shows self.old state →
             Shows self.new (after_cycles self.old.setup budget (replicate (budget + 1) all_units) state) }
     {
-        for _k in 0..budget + 1 {
+        let mut made = 0;
+        while made <= budget {
             if self.end.is_some() {
                 return;
             }
-            self.full_cycle(budget);
+            made += self.some_cycles(budget);
         }
+    }
+
+    /// Some cycles in which all may step, and their number: many at once, where nothing but the first works of the units
+    /// goes on in them, and else one, which makes a step or ends the run.
+    #[inline(always)]
+    fn some_cycles(&mut self, budget: u64) -> u64
+        requires steps { budget ≤ step_limit }
+        requires cycles { self.old.cycles < 2 ^ 62 }
+        requires going { self.old.end ≡ None }
+        ensures setup { self.new.setup ≡ self.old.setup }
+        ensures some { 0 < result }
+        ensures one { (result ≡ 1) ⊎ (self.new.end ≡ None) }
+        ensures cycles { self.new.cycles ≤ self.old.cycles + result }
+        ensures spent { budget ≤ self.old.steps → self.new.cycles ≡ self.old.cycles }
+        ensures room { HasRoom budget self.new }
+        ensures advances { self.new.end ≡ None → self.old.steps + result ≤ self.new.steps }
+        ensures state { (state : State) → Shows self.old state →
+            Shows self.new (after_cycles self.old.setup budget (replicate result all_units) state) }
+    {
+        if !self.is_host_alone(budget) {
+            let count = self.spare_cycles(budget);
+            if count > 0 {
+                self.many_cycles(count, budget);
+                return count;
+            }
+        }
+        self.full_cycle(budget);
+        1
+    }
+
+    /// How many cycles may be made at once, or 0: in each the host waits and each unit goes on with its first work, none
+    /// of these works ends, no two of them conflict, and no step is the last.
+    #[inline(always)]
+    fn spare_cycles(&self, most: u64) -> u64
+        requires going { self.now.end ≡ None }
+        ensures some_lanes { 0 < result → 0 < self.now.setup.lane_count }
+        ensures busy { 0 < result → 0 < busy_units self.now.queues }
+        ensures may { 0 < result → MayMakeMany most result self.now }
+    {
+        let busy = self.works.busy();
+        if busy == 0 || most <= self.steps || !self.host.waits(&self.code, self.waiting()) {
+            return 0;
+        }
+        let room = (most - self.steps - 1) / busy;
+        let spare = self.works.spare();
+        let count = spare.min(room);
+        if count < LEAST_AT_ONCE || !self.works.all_agree() {
+            return 0;
+        }
+        count
+    }
+
+    /// Makes so many cycles at once.
+    #[inline(always)]
+    fn many_cycles(&mut self, count: u64, most: u64)
+        requires some_lanes { 0 < self.old.setup.lane_count }
+        requires busy { 0 < busy_units self.old.queues }
+        requires limit { most ≤ step_limit }
+        requires cycles { self.old.cycles < 2 ^ 62 }
+        requires may { MayMakeMany most count self.old }
+        ensures setup { self.new.setup ≡ self.old.setup }
+        ensures going { self.new.end ≡ None }
+        ensures cycles { self.new.cycles ≡ self.old.cycles + count }
+        ensures room { self.new.steps < most }
+        ensures advances { self.old.steps + count ≤ self.new.steps }
+        ensures state { (state : State) → Shows self.old state →
+            Shows self.new (after_cycles self.old.setup most (replicate count all_units) state) }
+    {
+        let busy = self.works.busy();
+        self.works
+            .beat_all(count, &mut self.cells, &mut self.memory);
+        self.steps += count * busy;
+        self.cycles += count;
     }
 
     /// A cycle in which all may step: it makes a step, or ends the run.
@@ -349,7 +427,7 @@ impl Machine {
         if !self.may_turn(grant, 0) {
             return 0;
         }
-        if self.host_turn(most) { HOST } else { 0 }
+        if self.host_chance(most) { HOST } else { 0 }
     }
 
     #[inline(always)]
@@ -424,6 +502,45 @@ impl Machine {
         }
     }
 
+    /// The host's turn: an instruction that concerns it alone waits for nothing.
+    #[inline(always)]
+    fn host_chance(&mut self, most: u64) -> bool
+        requires going { self.old.end ≡ None }
+        requires steps { self.old.steps < most }
+        requires limit { most ≤ step_limit }
+        ensures room { HasRoom most self.new }
+        ensures cycles { self.new.cycles ≡ self.old.cycles }
+        ensures setup { self.new.setup ≡ self.old.setup }
+        ensures state { (state : State) → Shows self.old state →
+            Shows self.new (after_chance self.old.setup most false TheHost state) }
+        ensures answer { result ≡ not (self.new.steps == self.old.steps) }
+    {
+        if self.host.moves(&self.code) {
+            self.host_move(most);
+            return true;
+        }
+        self.host_turn(most)
+    }
+
+    /// Does such an instruction.
+    #[inline(always)]
+    fn host_move(&mut self, most: u64)
+        requires moves { IsTrue (moves (deed self.old.setup.code.instrs (host_of self.old.host))) }
+        requires going { self.old.end ≡ None }
+        requires steps { self.old.steps < most }
+        requires limit { most ≤ step_limit }
+        ensures room { HasRoom most self.new }
+        ensures cycles { self.new.cycles ≡ self.old.cycles }
+        ensures setup { self.new.setup ≡ self.old.setup }
+        ensures steps { self.new.steps ≡ self.old.steps + 1 }
+        ensures state { (state : State) → Shows self.old state →
+            Shows self.new (after_chance self.old.setup most false TheHost state) }
+    {
+        self.host.move_on(&self.code);
+        self.count(most);
+    }
+
+    /// The turn of any instruction.
     #[inline(always)]
     fn host_turn(&mut self, most: u64) -> bool
         requires going { self.old.end ≡ None }
